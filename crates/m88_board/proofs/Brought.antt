@@ -1,5 +1,5 @@
 -- What an event brings, by the choice that its letter comes to.
-use Rattle.std.specs.Prelude.{ℕ, Bool, true, false, None, List, [], ◌∷◌, ◌++◌, Some, ◌≡◌, ◌≤◌, ◌+◌, ◌-◌, ◌&&◌, length, slice_get}
+use Rattle.std.specs.Prelude.{ℕ, Bool, true, false, None, List, [], ◌∷◌, ◌++◌, Some, ◌≡◌, ◌≤◌, ◌+◌, ◌&&◌, length, slice_get}
 use Rattle.std.proofs.Common.{refl, sym, ◌∙◌, subst}
 use Rattle.m88_event.specs.Choice.{Choice, answer_choice, faults, holds, idles, issues, turn_choice, why_of}
 use Rattle.m88_event.specs.Local.{choice_by, record_by}

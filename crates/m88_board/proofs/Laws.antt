@@ -9,6 +9,8 @@ pub use Rattle.m88_board.proofs.Shown.{pending_seen, words_seen}
 pub use Rattle.m88_board.proofs.Walking.{drained_by, still_at}
 -- no register waits where nothing is pending
 pub use Rattle.m88_board.proofs.Ending.{none_wait}
+-- Each letter counts an event.
+pub use Rattle.m88_board.proofs.Walking.{along_events}
 -- Walks: a condition that held at none of the first k moments and fails at the next held at none of the first k + 1.
 pub use Rattle.m88_board.proofs.Walking.{not_yet}
 -- Those who watch a board see nothing without an event, and of two walks the glances of both.

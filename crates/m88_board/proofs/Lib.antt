@@ -25,6 +25,7 @@ pub mod Seeing
 pub mod Shown
 pub mod Walking
 pub mod Weighing
+pub mod Nexts
 pub mod Routes
 pub mod Ending
 pub mod Recorded

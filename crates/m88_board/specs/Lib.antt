@@ -5,6 +5,7 @@ pub mod Moves
 pub mod Shown
 pub mod Told
 pub mod Walks
+pub mod Calls
 pub mod Parts
 pub mod Contexts
 pub mod Inside

@@ -1,10 +1,10 @@
 -- Commands, one after the other.
-use Rattle.std.specs.Prelude.{ℕ, Bool, true, List, [], ◌∷◌, ◌++◌, Option, ◌≡◌, ◌<◌, ◌≤◌, ◌+◌, cond, count_by, drop, length}
+use Rattle.std.specs.Prelude.{ℕ, Bool, true, List, [], ◌∷◌, ◌++◌, Option, ◌≡◌, ◌<◌, ◌≤◌, ◌+◌, cond, OnOk, Result, Ok, Err, count_by, drop, length}
 use Rattle.std.proofs.Common.{add-one, append_assoc, arith, append-nil, refl, sym, ap, ap₂, ◌∙◌, subst, inl, inr, drop-cons, get_or}
 use Rattle.std.proofs.lemmas.List.{drop_all}
 use Rattle.std.proofs.lemmas.List.Sums.{sum_by-append}
 use Rattle.m88_event.proofs.Laws.{one_first}
-use Rattle.m88_event.specs.Timeline.{opening_moment}
+use Rattle.m88_event.specs.Timeline.{Moment, opening_moment}
 use Rattle.m88_event.specs.declared.letter.Letter.{Letter}
 use Rattle.m88_isa.specs.Address.{word_address}
 use Rattle.m88_isa.specs.Machine.{IsProgram, Program}
@@ -17,28 +17,76 @@ use Rattle.m88_board.specs.declared.walk.Walk.{Walk}
 use Rattle.m88_cli.proofs.MonitorWalks.{each_none}
 use Rattle.m88_cli.proofs.Reporting.{no_glance}
 use Rattle.m88_cli.specs.Limits.{session_limit}
+use Rattle.m88_cli.specs.MonitorLines.{counts_text}
 use Rattle.m88_cli.specs.Script.{is_break, most_breaks}
 use Rattle.m88_cli.specs.Session.{Course, IsSession, IsSessionFront, Session, after_command, course_of, glances_of, moments_of, opening_session, stops_command, text_of_command}
-use Rattle.m88_cli.specs.Inside.SessionKept.{Broke, Carried, Stands}
+use Rattle.m88_cli.specs.Inside.SessionKept.{Broke, Carried, Carries, Stands, Went}
 use Rattle.m88_cli.specs.declared.monitor.Monitor.{Monitor}
 use Rattle.m88_cli.specs.declared.script.MonitorCommand.{MonitorCommand}
 use Rattle.m88_cli.specs.declared.script.MonitorCommand.TheVariants.{Break}
 
 -- a command that makes no event
-pub saw_nothing : (c : Course) (s : Session) (command : MonitorCommand) (seen : Option (List Glance)) → Saw seen seen (glances_of c s command 0)
+saw_nothing : (c : Course) (s : Session) (command : MonitorCommand) (seen : Option (List Glance)) → Saw seen seen (glances_of c s command 0)
 saw_nothing c s command seen =
     subst (λ glances. Saw seen seen glances) (sym (no_glance c.program (moments_of c s command))) (saw_none seen)
 
-pub still : (c : Course) (s : Session) (command : MonitorCommand) (seen : Option (List Glance)) (old new : List ℕ)
-    (monitor : Monitor) → stops_command c s command 0 ≡ true → Stands c (after_command c s command 0) monitor →
-    new ≡ old ++ text_of_command c s command 0 → Carried c s command seen seen old new monitor
-still c s command seen old new monitor none stands text = record {
-  went = record { events = 0; makes = record { here = none; first = each_none c s command }; stands = stands; saw = saw_nothing c s command seen };
-  text = text;
+-- what is answered to such a command
+pub carries_still : {T E : Type 0} (command : MonitorCommand) (seen : Option (List Glance)) (old new : Monitor) (text more : List ℕ)
+    (r : Result T E) → length new.breakpoints.items ≡ length old.breakpoints.items + count_by is_break (command ∷ []) →
+    ((c : Course) (s : Session) → stops_command c s command 0 ≡ true) →
+    OnOk r ((c : Course) (s : Session) → Stands c s old
+    → Stands c (after_command c s command 0) new × (more ≡ text ++ text_of_command c s command 0)) →
+    Carries command seen seen old new text more r
+carries_still command seen old new text more (Ok x) set none shown = record {
+  set = set;
+  ok = λ c s stands. record {
+    went = record {
+      events = 0;
+      makes = record { here = none c s; first = each_none c s command };
+      stands = (shown c s stands).0;
+      saw = saw_nothing c s command seen;
+    };
+    text = (shown c s stands).1;
+  };
+  err = tt;
+}
+carries_still command seen old new text more (Err e) set none shown = record {
+  set = tt;
+  ok = tt;
+  err = λ c s stands. record { events = 0; each = each_none c s command; saw = saw_nothing c s command seen };
 }
 
-pub still_broke : (c : Course) (s : Session) (command : MonitorCommand) (seen : Option (List Glance)) → Broke c s command seen seen
-still_broke c s command seen = record { events = 0; each = each_none c s command; saw = saw_nothing c s command seen }
+-- to one that makes its events, and then writes the line of the counts
+pub carries_counts : {T E : Type 0} (command : MonitorCommand) (before after : Option (List Glance)) (old new : Monitor)
+    (text more : List ℕ) (r : Result T E) →
+    length new.breakpoints.items ≡ length old.breakpoints.items + count_by is_break (command ∷ []) →
+    ((c : Course) (s : Session) (k : ℕ) → text_of_command c s command k ≡ counts_text c.program (after_command c s command k).moment) →
+    ((c : Course) (s : Session) → Stands c s old → Went c s command before after new) →
+    OnOk r ((p : Program) (named : ℕ → Bool) (m : Moment) → IsAt p named m new.walk.board.now → more ≡ text ++ counts_text p m) →
+    Carries command before after old new text more r
+carries_counts command before after old new text more (Ok x) set counts goes told = record {
+  set = set;
+  ok = λ c s stands.
+      let went = goes c s stands in
+      record {
+        went = went;
+        text = told c.program c.named (after_command c s command went.events).moment went.stands.at
+            ∙ ap (λ line. text ++ line) (sym (counts c s went.events));
+      };
+  err = tt;
+}
+carries_counts command before after old new text more (Err e) set counts goes told = record {
+  set = tt;
+  ok = tt;
+  err = λ c s stands. let went = goes c s stands in record { events = went.events; each = went.makes.first; saw = went.saw };
+}
+
+-- and to one during which memory ran out
+pub carries_none : {T E : Type 0} (command : MonitorCommand) (before after : Option (List Glance)) (old new : Monitor)
+    (text more : List ℕ) (r : Result T E) → OnOk r ⊥ →
+    ((c : Course) (s : Session) → Stands c s old → Broke c s command before after) → Carries command before after old new text more r
+carries_none command before after old new text more (Ok x) none broke = absurd none
+carries_none command before after old new text more (Err e) none broke = record { set = tt; ok = tt; err = broke }
 
 -- so commands write one text, and show the same glances
 abbrev pub HasOneSession : Course → List MonitorCommand → Session → Type 0

@@ -42,11 +42,7 @@ four_draws number n =
 same_instruction : (a b c d k l m n : ℕ) → a ≡ k → b ≡ l → c ≡ m → d ≡ n
     → drawn_instruction (upper_half a % 8) (drawn_register (upper_half b)) (drawn_register (upper_half c)) (upper_half d)
     ≡ drawn_instruction (upper_half k % 8) (drawn_register (upper_half l)) (drawn_register (upper_half m)) (upper_half n)
-same_instruction a b c d k l m n e f g h =
-    ap (λ (x : ℕ). drawn_instruction (upper_half x % 8) (drawn_register (upper_half b)) (drawn_register (upper_half c)) (upper_half d)) e
-    ∙ ap (λ (x : ℕ). drawn_instruction (upper_half k % 8) (drawn_register (upper_half x)) (drawn_register (upper_half c)) (upper_half d)) f
-    ∙ ap (λ (x : ℕ). drawn_instruction (upper_half k % 8) (drawn_register (upper_half l)) (drawn_register (upper_half x)) (upper_half d)) g
-    ∙ ap (λ (x : ℕ). drawn_instruction (upper_half k % 8) (drawn_register (upper_half l)) (drawn_register (upper_half m)) (upper_half x)) h
+same_instruction a b c d k l m n e f g h = cc
 
 -- make a statement
 pub statement_is : (number n : ℕ) → statement_from (seed_after number (4 * n)) ≡ drawn_statement number n

@@ -45,11 +45,6 @@ no_session_front c (command ∷ commands) s = inl (record {
   glances_are = sym (no_glance c.program (moments_of c s command));
 })
 
--- the commands of a script by another name
-pub script_as : (input : List ℕ) (cs ds : List MonitorCommand) (n : ℕ) (source : List ℕ) → ds ≡ cs → IsScript input cs n source
-    → IsScript input ds n source
-script_as input cs ds n source e is = subst (λ (xs : List MonitorCommand). IsScript input xs n source) (sym e) is
-
 -- an input with a script and a source that an image holds is accepted
 pub accepted_input : (input : List ℕ) (cs : List MonitorCommand) (n : ℕ) (source : List ℕ) (image : ProgramImage) → IsScript input cs n source
     → HoldsUnit source image → IsMonitorInput input

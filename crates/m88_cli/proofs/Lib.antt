@@ -1,3 +1,4 @@
+pub mod NoneRead
 pub mod Numerals
 pub mod PageLists
 pub mod ScriptLines

@@ -1,6 +1,6 @@
 -- What a walk of the monitor's, an event of it and draining make of a session.
 use Rattle.std.specs.Prelude.{ℕ, Bool, true, false, not, List, [], ◌∷◌, Option, ◌≡◌, ◌<◌, ◌≤◌, ◌+◌, ◌||◌, nat_lt}
-use Rattle.std.proofs.Common.{add-one, arith, refl, sym, ap, ap₂, ◌∙◌, subst}
+use Rattle.std.proofs.Common.{Bor, add-one, arith, refl, sym, ap, ap₂, ◌∙◌, subst}
 use Rattle.std.proofs.lemmas.Bool.{le-ltb, lt-ltb}
 use Rattle.m88_event.specs.Letters.{letter_at}
 use Rattle.m88_event.specs.Run.{IsDrain, IsDraining, IsFirst, NotBefore, answered_after, letters_from, moment_along}
@@ -10,7 +10,8 @@ use Rattle.m88_isa.specs.Machine.{Program}
 use Rattle.m88_board.proofs.Laws.{not_yet, saw_none, saw_then}
 use Rattle.m88_board.specs.Board.{BoardView}
 use Rattle.m88_board.specs.Glances.{Saw, glance_at, glances_along}
-use Rattle.m88_board.specs.Moves.{IsAlong, IsAt, IsSameRun, IsStep}
+use Rattle.m88_board.specs.Calls.{StaysOnRun}
+use Rattle.m88_board.specs.Moves.{IsAlong, IsAt, IsStep}
 use Rattle.m88_board.specs.Walks.{is_halt, is_made, moments_from, stops_after}
 use Rattle.m88_board.specs.declared.glance.Glance.{Glance}
 use Rattle.m88_cli.specs.Session.{Course, MakesEach, Session, moment_on, session_on, stops_command, stops_on}
@@ -54,12 +55,11 @@ record Walked (c : Course) (s : Session) (enough : Program → ℕ → Moment �
   stands : Stands c (session_on c s events) new
 
 walked_on : (c : Course) (s : Session) (enough : Program → ℕ → Moment → Bool) (old new : Monitor) (before after : Option (List Glance))
-    → Stands c s old → new.breakpoints.items ≡ old.breakpoints.items → IsSameRun old.walk.board.now new.walk.board.now
-    → new.walk.schedule.now ≡ old.walk.schedule.now
+    → Stands c s old → new.breakpoints.items ≡ old.breakpoints.items → StaysOnRun old.walk new.walk
     → WalkedFrom c s enough before after new old.walk.board.now.limit old.walk.schedule.now old.walk.taken
     → Walked c s enough before after new
 unfolding session_on
-walked_on c s enough old new before after stands breakpoints run letters walked =
+walked_on c s enough old new before after stands breakpoints stays walked =
     let own = as_session c s old (WalkedFrom c s enough before after new) stands walked in
     record {
       events = own.0;
@@ -67,8 +67,8 @@ walked_on c s enough old new before after stands breakpoints run letters walked 
       saw = own.2.saw;
       stands = record {
         program = stands.program;
-        schedule = letters ∙ stands.schedule;
-        limit = run.limit ∙ stands.limit;
+        schedule = ap (λ (x : Bor (List Letter)). x.now) stays.schedule ∙ stands.schedule;
+        limit = stays.same.limit ∙ stands.limit;
         at = own.2.at;
         taken = own.3;
         breakpoints = breakpoints ∙ stands.breakpoints;
@@ -77,21 +77,20 @@ walked_on c s enough old new before after stands breakpoints run letters walked 
 
 -- `step` and `go` are carried out by such walks
 pub step_went : (c : Course) (s : Session) (most : ℕ) (old new : Monitor) (before after : Option (List Glance))
-    → Stands c s old → new.breakpoints.items ≡ old.breakpoints.items → IsSameRun old.walk.board.now new.walk.board.now
-    → new.walk.schedule.now ≡ old.walk.schedule.now
+    → Stands c s old → new.breakpoints.items ≡ old.breakpoints.items → StaysOnRun old.walk new.walk
     → WalkedFrom c s (is_made most) before after new old.walk.board.now.limit old.walk.schedule.now old.walk.taken
     → Went c s (Step most) before after new
-step_went c s most old new before after stands breakpoints run letters walked =
-    let w = walked_on c s (is_made most) old new before after stands breakpoints run letters walked in
+step_went c s most old new before after stands breakpoints stays walked =
+    let w = walked_on c s (is_made most) old new before after stands breakpoints stays walked in
     record { events = w.events; makes = w.first; stands = w.stands; saw = w.saw }
 
 pub go_went : (c : Course) (s : Session) (addresses : List ℕ) (old new : Monitor) (before after : Option (List Glance))
     → Stands c s old → addresses ≡ old.breakpoints.items → new.breakpoints.items ≡ old.breakpoints.items
-    → IsSameRun old.walk.board.now new.walk.board.now → new.walk.schedule.now ≡ old.walk.schedule.now
+    → StaysOnRun old.walk new.walk
     → WalkedFrom c s (is_halt addresses) before after new old.walk.board.now.limit old.walk.schedule.now old.walk.taken
     → Went c s Go before after new
-go_went c s addresses old new before after stands breaks breakpoints run letters walked =
-    let w = walked_on c s (is_halt addresses) old new before after stands breakpoints run letters walked in
+go_went c s addresses old new before after stands breaks breakpoints stays walked =
+    let w = walked_on c s (is_halt addresses) old new before after stands breakpoints stays walked in
     record {
       events = w.events;
       makes = subst (λ (xs : List ℕ). IsFirst (stops_on c s (is_halt xs)) w.events) (breaks ∙ stands.breakpoints) w.first;
@@ -101,12 +100,11 @@ go_went c s addresses old new before after stands breaks breakpoints run letters
 
 -- and `drain` by its events
 pub drain_went : (c : Course) (s : Session) (old new : Monitor) (before after : Option (List Glance)) → Stands c s old →
-    new.breakpoints.items ≡ old.breakpoints.items → IsSameRun old.walk.board.now new.walk.board.now →
-    new.walk.schedule.now ≡ old.walk.schedule.now → new.walk.taken ≡ old.walk.taken →
+    new.breakpoints.items ≡ old.breakpoints.items → StaysOnRun old.walk new.walk → new.walk.taken ≡ old.walk.taken →
     (k : ℕ) × IsDrain c.program c.named old.walk.board.now.limit s.moment k
     × IsAlong c.program c.named (answered_after c.program c.named old.walk.board.now.limit s.moment) k before after new.walk.board.now →
     Went c s Drain before after new
-drain_went c s old new before after stands breakpoints run letters taken drained =
+drain_went c s old new before after stands breakpoints stays taken drained =
     let own = as_session c s old (λ limit schedule taken. (k : ℕ) × IsDrain c.program c.named limit s.moment k
     × IsAlong c.program c.named (answered_after c.program c.named limit s.moment) k before after new.walk.board.now) stands drained in
     record {
@@ -114,8 +112,8 @@ drain_went c s old new before after stands breakpoints run letters taken drained
       makes = own.1;
       stands = record {
         program = stands.program;
-        schedule = letters ∙ stands.schedule;
-        limit = run.limit ∙ stands.limit;
+        schedule = ap (λ (x : Bor (List Letter)). x.now) stays.schedule ∙ stands.schedule;
+        limit = stays.same.limit ∙ stands.limit;
         at = own.2.at;
         taken = taken ∙ stands.taken;
         breakpoints = breakpoints ∙ stands.breakpoints;
@@ -131,11 +129,6 @@ drain_broke c s old board before after stands drained =
     let own = as_session c s old (λ limit schedule taken. (k : ℕ) × IsDraining c.program c.named limit s.moment k
     × IsAlong c.program c.named (answered_after c.program c.named limit s.moment) k before after board) stands drained in
     record { events = own.0; each = own.1; saw = own.2.saw }
-
--- memory may run out behind a command that went
-pub went_broke : (c : Course) (s : Session) (command : MonitorCommand) (before after : Option (List Glance)) (new : Monitor)
-    → Went c s command before after new → Broke c s command before after
-went_broke c s command before after new went = record { events = went.events; each = went.makes.first; saw = went.saw }
 
 -- what holds after some events of the run's letters
 pub record IsAlongOn (c : Course) (s : Session) (k : ℕ) (before after : Option (List Glance)) (monitor : Monitor) : Type 0 where
@@ -163,11 +156,10 @@ along_start c s seen monitor stands = record {
 pub along_next : (c : Course) (s : Session) (k : ℕ) (before here after : Option (List Glance)) (old new : Monitor) →
     IsAlongOn c s k before here old →
     IsStep c.program c.named (letter_at old.walk.schedule.now old.walk.taken) (moment_on c s k) here after old.walk.board.now
-    new.walk.board.now → IsSameRun old.walk.board.now new.walk.board.now →
-    new.walk.schedule.now ≡ old.walk.schedule.now → new.walk.taken ≡ old.walk.taken + 1 →
+    new.walk.board.now → StaysOnRun old.walk new.walk → new.walk.taken ≡ old.walk.taken + 1 →
     new.breakpoints.items ≡ old.breakpoints.items → IsAlongOn c s (k + 1) before after new
 unfolding session_on moment_along glances_along
-along_next c s k before here after old new along step run letters taken breakpoints =
+along_next c s k before here after old new along step stays taken breakpoints =
     let stands = along.stands in
     let last : Moment = moment_on c s k in
     let letter : letter_at old.walk.schedule.now old.walk.taken ≡ letters_from c.schedule s.taken k =
@@ -179,8 +171,8 @@ along_next c s k before here after old new along step run letters taken breakpoi
     subst (λ n. IsAlongOn c s n before after new) (sym (add-one k)) (record {
       stands = record {
         program = stands.program;
-        schedule = letters ∙ stands.schedule;
-        limit = run.limit ∙ stands.limit;
+        schedule = ap (λ (x : Bor (List Letter)). x.now) stays.schedule ∙ stands.schedule;
+        limit = stays.same.limit ∙ stands.limit;
         at = subst (λ (m : Moment). IsAt c.program c.named m new.walk.board.now) next step.at;
         taken = omega (arith, taken, place);
         breakpoints = breakpoints ∙ stands.breakpoints;

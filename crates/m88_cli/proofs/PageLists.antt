@@ -118,10 +118,6 @@ pub record Sofar (text rest : List ℕ) (sofar : List ℕ) : Type 0 where
   pub ahead : (ns : List ℕ) → ArePageNumbers rest ns → ArePageNumbers text (sofar ++ ns)
   pub back : (ns : List ℕ) → ArePageNumbers text ns → (others : List ℕ) × ArePageNumbers rest others × (ns ≡ sofar ++ others)
 
--- at first none
-pub at_first : (text : List ℕ) → Sofar text text []
-at_first text = record { ahead = λ ns is. is; back = λ ns is. (ns, is, refl) }
-
 -- one more
 pub one_more : (text rest first others sofar later : List ℕ) → Sofar text rest sofar → rest ≡ first ++ comma ∷ others → Lacks comma first
     → (n : ℕ) × IsPageNumber first n × (later ≡ sofar ++ n ∷ []) → Sofar text others later

@@ -1,19 +1,17 @@
 -- A run of the one program of an input comes to one outcome, and its report answers the input.
-use Rattle.std.proofs.Common.{◌≡◌, ℕ, zero, suc, ◌+◌, Bool, List, [], Option, Result, Ok, Err, true, add-one, refl, ap, sym, ◌∙◌, subst, arith}
-use Rattle.std.specs.Prelude.{IfOk, MatchBool, OnErr, OnOk}
+use Rattle.std.proofs.Common.{◌≡◌, ℕ, ◌+◌, Bool, List, [], Option, Result, Ok, Err, true, inr, refl, ap, sym, ◌∙◌, subst, arith}
+use Rattle.std.specs.Prelude.{IfOk, OnErr, OnOk}
 use Rattle.m88_base.specs.Image.{IsImage, ProgramImage}
 use Rattle.m88_base.specs.declared.failing.NoMemory.{NoMemory}
 use Rattle.m88_isa.specs.ImageProgram.{IsProgramOf}
 use Rattle.m88_isa.specs.Machine.{Program}
 use Rattle.m88_event.proofs.Laws.{one_outcome}
-use Rattle.m88_event.specs.Choice.{Choice, evicts, faults, finishes, holds, idles, issues, passes, replies, serves}
 use Rattle.m88_event.specs.Letters.{letter_at}
-use Rattle.m88_event.specs.Run.{IsOutcome, IsRunning, moment_after, moment_along, outcome_at}
-use Rattle.m88_event.specs.Timeline.{Moment, after_choice, after_letter, choice_at, record_at}
+use Rattle.m88_event.specs.Run.{IsOutcome, IsRunning, moment_after, outcome_at}
+use Rattle.m88_event.specs.Timeline.{Moment, opening_moment}
 use Rattle.m88_event.specs.declared.letter.Letter.{Letter}
 use Rattle.m88_event.specs.declared.outcome.Outcome.{Outcome}
-use Rattle.m88_event.specs.declared.record.Record.{Record}
-use Rattle.m88_board.proofs.Laws.{saw_none}
+use Rattle.m88_board.proofs.Laws.{along_events, saw_none}
 use Rattle.m88_board.specs.Glances.{Saw, glances_along}
 use Rattle.m88_board.specs.declared.glance.Glance.{Glance}
 use Rattle.m88_report.specs.Report.{report_of}
@@ -22,38 +20,15 @@ use Rattle.m88_asm.specs.Inside.Held.{HoldsUnit}
 use Rattle.m88_asm.specs.Sources.{IsSourceProgram}
 use Rattle.m88_srec.specs.Accepted.{IsAccepted, whole_of}
 use Rattle.m88_cli.proofs.Programs.{records_held}
-use Rattle.m88_cli.specs.Answer.{Accepts, IsAnswerToAccepted, IsAnswerToRefused, IsOutput}
+use Rattle.m88_cli.specs.Answer.{Accepts, IsAnswerToAccepted, IsOutput}
 use Rattle.m88_cli.specs.Command.{Command, exec, run}
-use Rattle.m88_cli.specs.Inside.Reply.{Replies, WatchesReply}
+use Rattle.m88_cli.specs.Inside.Reply.{AnswersShown, WatchesFront}
 use Rattle.m88_cli.specs.Runs.{IsLoadedProgram, IsReport}
 use Rattle.m88_cli.specs.Settings.{Settings}
 use Rattle.m88_cli.specs.Watching.{FrontOfAccepted, SawFront, SawRun, Shown, ShownFront}
 use Rattle.m88_cli.specs.declared.reply.Reply.{Reply}
 
--- a choice counts no event
-choice_counts_none : (p : Program) (c : Choice) (fault : Record) (m : Moment) → (after_choice p c fault m).events ≡ m.events
-choice_counts_none p idles fault m = refl
-choice_counts_none p passes fault m = refl
-choice_counts_none p (holds why) fault m = refl
-choice_counts_none p (issues change) fault m = refl
-choice_counts_none p (serves byte) fault m = refl
-choice_counts_none p (finishes stop) fault m = refl
-choice_counts_none p replies fault m = refl
-choice_counts_none p faults fault m = refl
-choice_counts_none p evicts fault m = refl
-
--- so a moment has as many events as letters led to it
-letter_counts : (p : Program) (named : ℕ → Bool) (limit : ℕ) (letter : Letter) (m : Moment) → (after_letter p named limit letter m).events ≡ m.events + 1
-unfolding after_letter
-letter_counts p named limit letter m = ap (λ n. n + 1) (choice_counts_none p (choice_at p named limit letter m) (record_at p named limit m) m)
-
-pub counts : (p : Program) (named : ℕ → Bool) (limit : ℕ) (schedule : List Letter) (k : ℕ) → (moment_after p named limit schedule k).events ≡ k
-unfolding moment_along
-counts p named limit schedule zero = refl
-counts p named limit schedule (suc k) =
-    letter_counts p named limit (letter_at schedule k) (moment_after p named limit schedule k)
-    ∙ ap (λ n. n + 1) (counts p named limit schedule k) ∙ add-one k
-
+-- an outcome has as many events as the run
 events_of : (p : Program) (m : Moment) → (outcome_at p m).events ≡ m.events
 unfolding outcome_at
 events_of p m = refl
@@ -61,7 +36,9 @@ events_of p m = refl
 pub outcome_counts : (p : Program) (named : ℕ → Bool) (limit : ℕ) (schedule : List Letter) (o : Outcome) (is : IsOutcome p named limit schedule o)
     → o.events ≡ is.events
 outcome_counts p named limit schedule o is =
-    ap (λ (x : Outcome). x.events) is.value ∙ events_of p (moment_after p named limit schedule is.events) ∙ counts p named limit schedule is.events
+    let made : (moment_after p named limit schedule is.events).events ≡ 0 + is.events =
+    along_events p named limit (letter_at schedule) opening_moment is.events in
+    ap (λ (x : Outcome). x.events) is.value ∙ events_of p (moment_after p named limit schedule is.events) ∙ omega (arith, made)
 
 -- what was seen of as many events as the outcome has was seen of the run
 pub saw_run : (p : Program) (s : Settings) (before after : Option (List Glance)) (o : Outcome) → p.mxm ≡ s.mxm
@@ -128,31 +105,29 @@ module _ (told_of : Outcome → List ℕ) (IsSuch : Program → Type 0) (command
         });
       }
 
-  pub run_replies : (result : Result Reply NoMemory) → IfOk result (λ r. r.accepted ≡ true)
-      → IfOk result (λ r. TellsOf told_of image s r.text.items) → IfOk result (Replies command input)
-  run_replies (Err e) accepted told = tt
-  run_replies (Ok reply) accepted told =
-      subst (λ t. MatchBool t (IsAnswerToAccepted command input reply.text.items) (IsAnswerToRefused command input reply.text.items))
-      (sym accepted) (run_answer reply.text.items told)
-
   -- and a watch was shown all of the run, or a front
   pub run_shown : (before after : Option (List Glance)) → ((p : Program) → IsProgramOf image p → p.mxm ≡ s.mxm → SawRun p s before after)
       → Shown command input before after
   run_shown before after saw = r.is_shown before after r.held.program r.held.is_such (saw r.held.program r.held.of_image r.held.mode)
-
-  pub run_watches : {W : Type 0} (seen : W → Option (List Glance)) (old new : W) (result : Result Reply NoMemory)
-      → IfOk result (λ r. r.accepted ≡ true)
-      → OnOk result ((p : Program) → IsProgramOf image p → p.mxm ≡ s.mxm → SawRun p s (seen old) (seen new))
-      → IfOk result (WatchesReply seen old new command input)
-  run_watches seen old new (Err e) accepted saw = tt
-  run_watches seen old new (Ok reply) accepted saw =
-      subst (λ t. MatchBool t (Shown command input (seen old) (seen new)) (new ≡ old)) (sym accepted) (run_shown (seen old) (seen new) saw)
 
   pub run_front : (before after : Option (List Glance)) → ((p : Program) → IsProgramOf image p → p.mxm ≡ s.mxm → SawFront p s before after)
       → FrontOfAccepted command input before after
   run_front before after saw = record {
     accepted = r.accepted;
     shown = r.is_front before after r.held.program r.held.is_such (saw r.held.program r.held.of_image r.held.mode);
+  }
+
+  pub run_answers : {W : Type 0} (seen : W → Option (List Glance)) (old new : W) (result : Result Reply NoMemory)
+      → IfOk result (λ r. r.accepted ≡ true) → IfOk result (λ r. TellsOf told_of image s r.text.items)
+      → OnOk result ((p : Program) → IsProgramOf image p → p.mxm ≡ s.mxm → SawRun p s (seen old) (seen new))
+      → OnErr result ((p : Program) → IsProgramOf image p → p.mxm ≡ s.mxm → SawFront p s (seen old) (seen new))
+      → AnswersShown seen old new command input result
+  run_answers seen old new (Err e) accepted told saw front =
+      record { reply = tt; watched = tt; front = inr (run_front (seen old) (seen new) front) }
+  run_answers seen old new (Ok reply) accepted told saw front = record {
+    reply = rw accepted (run_answer reply.text.items told);
+    watched = rw accepted (run_shown (seen old) (seen new) saw);
+    front = tt;
   }
 
 -- `run` carries out the program of its source, and `exec` that of its records
@@ -188,6 +163,12 @@ pub run_by : (p : Program) (own : ℕ) (s : Settings) (before after : Option (Li
     → SawRun p s before after
 run_by p own s before after o e mode is saw =
     subst (λ n. SawRun p (record s { limit = n }) before after) e (saw_run p (record s { limit = own }) before after o mode is saw)
+
+-- where there is no reply
+pub answers_none : {W E : Type 0} {seen : W → Option (List Glance)} {old new : W} {command : Command} {input : List ℕ} (r : Result Reply E)
+    → OnOk r ⊥ → WatchesFront seen old new command input → AnswersShown seen old new command input r
+answers_none (Ok reply) none front = absurd none
+answers_none (Err e) none front = record { reply = tt; watched = tt; front = front }
 
 -- a fact holds where a call failed
 pub on_err : {T E P : Type 0} (r : Result T E) → P → OnErr r P

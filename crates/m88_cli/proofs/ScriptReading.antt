@@ -6,7 +6,6 @@ use Rattle.std.proofs.Math.Seq.{take-append_seam}
 use Rattle.m88_base.specs.Lines.{lines_of}
 use Rattle.m88_cli.specs.Script.{AreScriptLines, StopsScript}
 use Rattle.m88_cli.specs.declared.script.MonitorCommand.{MonitorCommand}
-use Rattle.m88_cli.proofs.Scripts.{no_lines_yet}
 
 -- lines by which a front of them stops to be a script's
 pub stops_behind : (all lines later : List (List ℕ)) (line : List ℕ) (cs : List MonitorCommand) (n : ℕ) → all ≡ lines ++ line ∷ later → n ≡ length lines
@@ -28,9 +27,6 @@ pub record HasRead (text rest : List ℕ) (commands : List MonitorCommand) (pass
   pub lines_are : lines_of text ≡ lines ++ lines_of rest
   pub are_script : AreScriptLines lines commands
   pub number : passed ≡ length lines
-
-pub none_read : (text : List ℕ) → HasRead text text [] 0
-none_read text = record { lines = []; lines_are = refl; are_script = no_lines_yet; number = refl }
 
 module _ (text rest line behind : List ℕ) (cs : List MonitorCommand) (passed : ℕ) (h : HasRead text rest cs passed) (e : lines_of rest ≡ line ∷ lines_of behind) where
   -- one line more

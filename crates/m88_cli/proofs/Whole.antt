@@ -171,15 +171,6 @@ pub line_of_reply : (command : Command) (input : List ℕ) (r : Refusal) (reply 
     → reply.text.items ≡ refusal_line r
 line_of_reply command input r reply refused h = only_refused command input reply.text.items r refused (answer_of command input reply h)
 
--- a reply that accepts an input is to one that is accepted, and a reply that refuses one is to one that isn't
-pub accepted_reply : (command : Command) (input : List ℕ) (r : Reply) → r.accepted ≡ true → Replies command input r
-    → IsAnswerToAccepted command input r.text.items
-accepted_reply command input r e h = subst (λ t. MatchBool t (IsAnswerToAccepted command input r.text.items) (IsAnswerToRefused command input r.text.items)) e h
-
-pub refused_reply : (command : Command) (input : List ℕ) (r : Reply) → r.accepted ≡ false → Replies command input r
-    → IsAnswerToRefused command input r.text.items
-refused_reply command input r e h = subst (λ t. MatchBool t (IsAnswerToAccepted command input r.text.items) (IsAnswerToRefused command input r.text.items)) e h
-
 -- a watch was shown what the reply says
 by_reply : {W : Type 0} (accepted : Bool) (seen : W → Option (List Glance)) (old new : W) (command : Command) (input text : List ℕ)
     → MatchBool accepted (IsAnswerToAccepted command input text) (IsAnswerToRefused command input text)

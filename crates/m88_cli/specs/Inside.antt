@@ -1,4 +1,5 @@
 -- Words for the contracts of private functions; no promise of the program names them.
+pub mod Reading
 pub mod Inputs
 pub mod ScriptWords
 pub mod Linking

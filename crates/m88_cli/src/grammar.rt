@@ -5,10 +5,11 @@ ghost use Rattle.m88_event.specs.declared.letter.Letter.{Letter as LetterValue};
 ghost use Rattle.m88_tasks.specs.Letters.{IsShareSchedule};
 ghost use Rattle.m88_tasks.specs.declared.letter.ShareLetter.{ShareLetter};
 ghost use Rattle.m88_cli.specs.Command.{Command as Choice, Spells};
+ghost use Rattle.m88_cli.specs.Inside.Reading.{Reads, ReadsFit};
 ghost use Rattle.m88_cli.specs.Kept.{IsFit, command_of, settings_of};
 ghost use Rattle.m88_cli.specs.Limits.{most_limit};
 ghost use Rattle.m88_pager.specs.Paged.{most_frames};
-ghost use Rattle.m88_cli.specs.Settings.{SayLimited, SayPaged, SaySession, SaySettings, Settings as Asked, mode_words};
+ghost use Rattle.m88_cli.specs.Settings.{SayLimited, SayPaged, SaySession, SaySettings, mode_words};
 ghost use Rattle.m88_cli.specs.Words.{texts};
 ghost use Rattle.m88_mem.specs.Marks.{NamesPages, absent_in};
 
@@ -65,8 +66,7 @@ fn no_more(words: &[String]) -> Option<()>
 
 /// The mode that the words behind a schedule say: `mxm` alone sets MXM, and without it MXM is clear.
 fn mode(words: &[String]) -> Option<bool>
-    ensures found { IfSome result (λ mxm. texts words.now ≡ mode_words mxm) }
-    ensures only { (mxm : Bool) → texts words.now ≡ mode_words mxm → result ≡ Some mxm }
+    ensures { Reads (λ mxm. texts words.now ≡ mode_words mxm) result }
 {
     let Some((word, rest)) = first_word(words) else {
         return Some(false);
@@ -118,12 +118,9 @@ struct RunSettings<'a> {
 
 /// The limit (1 to 7 decimal digits, at most 1,000,000) of a run, and what comes behind it.
 fn settings<'a>(words: &'a [String]) -> Option<RunSettings<'a>>
-    ensures found { IfSome result (λ s. SaySettings (texts words.now)
-        (settings_of s.limit s.opening.absent s.opening.schedule s.opening.mxm)) }
-    ensures only { (asked : Asked) → SaySettings (texts words.now) asked → MatchOption result ⊥
-        (λ s. settings_of s.limit s.opening.absent s.opening.schedule s.opening.mxm ≡ asked) }
-    ensures limit { IfSome result (λ s. s.limit ≤ most_limit) }
-    ensures pages { IfSome result (λ s. NamesPages s.opening.absent) }
+    ensures { ReadsFit (SaySettings (texts words.now))
+        (λ s. settings_of s.limit s.opening.absent s.opening.schedule s.opening.mxm)
+        (λ s. (s.limit ≤ most_limit) × NamesPages s.opening.absent) result }
 {
     let (limit, words) = first_word(words)?;
     let limit = decimal_number(7, limit.as_bytes(), MOST_LIMIT)?;
@@ -142,10 +139,7 @@ fn bare_command<'a>(command: Command<'a>, rest: &[String]) -> Option<Command<'a>
 
 /// The run of a source that the words behind `run` ask for.
 fn run_command<'a>(words: &'a [String]) -> Option<Command<'a>>
-    ensures found { IfSome result (λ c. Spells (codes "run" ∷ texts words.now) (command_of c)) }
-    ensures only { (choice : Choice) → Spells (codes "run" ∷ texts words.now) choice
-        → MatchOption result ⊥ (λ c. command_of c ≡ choice) }
-    ensures fit { IfSome result IsFit }
+    ensures { ReadsFit (Spells (codes "run" ∷ texts words.now)) command_of IsFit result }
 {
     let RunSettings { limit, opening } = settings(words)?;
     Some(Command::Run {
@@ -158,10 +152,7 @@ fn run_command<'a>(words: &'a [String]) -> Option<Command<'a>>
 
 /// The run of S-records that the words behind `exec` ask for.
 fn exec_command<'a>(words: &'a [String]) -> Option<Command<'a>>
-    ensures found { IfSome result (λ c. Spells (codes "exec" ∷ texts words.now) (command_of c)) }
-    ensures only { (choice : Choice) → Spells (codes "exec" ∷ texts words.now) choice
-        → MatchOption result ⊥ (λ c. command_of c ≡ choice) }
-    ensures fit { IfSome result IsFit }
+    ensures { ReadsFit (Spells (codes "exec" ∷ texts words.now)) command_of IsFit result }
 {
     let RunSettings { limit, opening } = settings(words)?;
     Some(Command::Exec {
@@ -174,10 +165,7 @@ fn exec_command<'a>(words: &'a [String]) -> Option<Command<'a>>
 
 /// The session that the words behind `mon` ask for.
 fn session_command<'a>(words: &'a [String]) -> Option<Command<'a>>
-    ensures found { IfSome result (λ c. Spells (codes "mon" ∷ texts words.now) (command_of c)) }
-    ensures only { (choice : Choice) → Spells (codes "mon" ∷ texts words.now) choice
-        → MatchOption result ⊥ (λ c. command_of c ≡ choice) }
-    ensures fit { IfSome result IsFit }
+    ensures { ReadsFit (Spells (codes "mon" ∷ texts words.now)) command_of IsFit result }
 {
     let opening = opening_of(words)?;
     Some(Command::Mon {
@@ -190,10 +178,7 @@ fn session_command<'a>(words: &'a [String]) -> Option<Command<'a>>
 /// The workload that the words behind `soak` ask for: its number (1 to 10 decimal digits, below 2^32) and the count of
 /// its statements (1 to 7 decimal digits, 1 to 40,000).
 fn workload_command<'a>(words: &[String]) -> Option<Command<'a>>
-    ensures found { IfSome result (λ c. Spells (codes "soak" ∷ texts words.now) (command_of c)) }
-    ensures only { (choice : Choice) → Spells (codes "soak" ∷ texts words.now) choice
-        → MatchOption result ⊥ (λ c. command_of c ≡ choice) }
-    ensures fit { IfSome result IsFit }
+    ensures { ReadsFit (Spells (codes "soak" ∷ texts words.now)) command_of IsFit result }
 {
     let (number, words) = first_word(words)?;
     let (count, words) = first_word(words)?;
@@ -242,10 +227,7 @@ fn shared_settings<'a>(words: &'a [String]) -> Option<SharedSettings<'a>>
 
 /// The shared run that the words behind `share` ask for.
 fn share_command<'a>(words: &'a [String]) -> Option<Command<'a>>
-    ensures found { IfSome result (λ c. Spells (codes "share" ∷ texts words.now) (command_of c)) }
-    ensures only { (choice : Choice) → Spells (codes "share" ∷ texts words.now) choice
-        → MatchOption result ⊥ (λ c. command_of c ≡ choice) }
-    ensures fit { IfSome result IsFit }
+    ensures { ReadsFit (Spells (codes "share" ∷ texts words.now)) command_of IsFit result }
 {
     let SharedSettings {
         limit,
@@ -279,10 +261,7 @@ fn plain_settings<'a>(words: &'a [String]) -> Option<RunSettings<'a>>
 
 /// The run with emulation that the words behind `emu` ask for.
 fn emulation_command<'a>(words: &'a [String]) -> Option<Command<'a>>
-    ensures found { IfSome result (λ c. Spells (codes "emu" ∷ texts words.now) (command_of c)) }
-    ensures only { (choice : Choice) → Spells (codes "emu" ∷ texts words.now) choice
-        → MatchOption result ⊥ (λ c. command_of c ≡ choice) }
-    ensures fit { IfSome result IsFit }
+    ensures { ReadsFit (Spells (codes "emu" ∷ texts words.now)) command_of IsFit result }
 {
     let RunSettings { limit, opening } = plain_settings(words)?;
     Some(Command::Emu {
@@ -323,10 +302,7 @@ fn paged_settings<'a>(words: &'a [String]) -> Option<PagedSettings<'a>>
 
 /// The paged run that the words behind `page` ask for.
 fn paged_command<'a>(words: &'a [String]) -> Option<Command<'a>>
-    ensures found { IfSome result (λ c. Spells (codes "page" ∷ texts words.now) (command_of c)) }
-    ensures only { (choice : Choice) → Spells (codes "page" ∷ texts words.now) choice
-        → MatchOption result ⊥ (λ c. command_of c ≡ choice) }
-    ensures fit { IfSome result IsFit }
+    ensures { ReadsFit (Spells (codes "page" ∷ texts words.now)) command_of IsFit result }
 {
     let PagedSettings { frames, run } = paged_settings(words)?;
     Some(Command::Page {
@@ -339,10 +315,7 @@ fn paged_command<'a>(words: &'a [String]) -> Option<Command<'a>>
 
 /// The run of which the words behind `trace` ask for the trace.
 fn trace_command<'a>(words: &'a [String]) -> Option<Command<'a>>
-    ensures found { IfSome result (λ c. Spells (codes "trace" ∷ texts words.now) (command_of c)) }
-    ensures only { (choice : Choice) → Spells (codes "trace" ∷ texts words.now) choice
-        → MatchOption result ⊥ (λ c. command_of c ≡ choice) }
-    ensures fit { IfSome result IsFit }
+    ensures { ReadsFit (Spells (codes "trace" ∷ texts words.now)) command_of IsFit result }
 {
     let RunSettings { limit, opening } = plain_settings(words)?;
     Some(Command::Trace {

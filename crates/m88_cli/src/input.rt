@@ -1,11 +1,9 @@
 //! The input that a command reads, as it wants it.
-ghost use Rattle.std.specs.Prelude.{ℕ, ◌≡◌, ◌≢◌, ◌+◌, ◌≤◌, Err, IfErr, IfOk, List, OnOk, false, true, length};
+ghost use Rattle.std.specs.Prelude.{ℕ, ◌≡◌, ◌≤◌, IfErr, IfOk, List, false, true, length};
 ghost use Rattle.std.specs.Io.KnownBytes.{Consumes, IsAtEnd};
-ghost use Rattle.m88_base.specs.Calls.{CallsWithin};
-ghost use Rattle.m88_base.specs.Causes.{Rose};
-ghost use Rattle.m88_base.specs.Outside.{TakesAtMost, TakesExactly};
 ghost use Rattle.m88_cli.specs.Command.{kind_of, reads_input};
 ghost use Rattle.m88_cli.specs.Inside.Inputs.{AreRecordsOf, IsKeptAs, IsMadeOf, IsReadFrom, IsRecordsRead, IsText};
+ghost use Rattle.m88_cli.specs.Inside.Reading.{ReadsSource};
 ghost use Rattle.m88_cli.specs.Kept.{command_of};
 ghost use Rattle.m88_cli.specs.Limits.{most_input};
 
@@ -63,15 +61,9 @@ pub fn input_of<S: Source>(
         (IsReadFrom (command_of command.now) (S.left source.old) (S.left source.new)) }
     ensures kept { IfOk result (IsKeptAs (kind_of (command_of command.now))) }
     ensures unread { reads_input (command_of command.now) ≡ false → source.new ≡ source.old }
-    ensures calls { CallsWithin (most_input + 2) (S.calls source.old) (S.calls source.new) }
-    ensures clean { OnOk result (S.faults source.new ≡ S.faults source.old) }
     ensures reader { IfErr result (λ _. reads_input (command_of command.now) ≡ true) }
-    ensures fault { result ≡ Err ReadEnd.SourceFault
-        → Rose (S.faults source.old) (S.faults source.new) }
-    ensures too_long { result ≡ Err ReadEnd.TooLong
-        → TakesExactly (S.left source.old) (S.left source.new) (most_input + 1) }
-    ensures not_too_long { result ≢ Err ReadEnd.TooLong
-        → TakesAtMost (S.left source.old) (S.left source.new) most_input }
+    ensures reading { ReadsSource ReadEnd.SourceFault ReadEnd.TooLong S.left S.calls S.faults
+        source.old source.new result }
 {
     match command {
         Command::Soak { .. } => Ok(Input::Nothing),
@@ -91,14 +83,8 @@ fn read_records<S: Source>(alloc: Global, source: &mut S) -> Result<Result<Image
     ensures ok { IfOk result (λ records. (text : List ℕ)
         × Consumes (S.left source.old) (S.left source.new) text
         × IsAtEnd (S.left source.new) × AreRecordsOf records text) }
-    ensures too_long { result ≡ Err ReadEnd.TooLong
-        → TakesExactly (S.left source.old) (S.left source.new) (most_input + 1) }
-    ensures short { result ≢ Err ReadEnd.TooLong
-        → TakesAtMost (S.left source.old) (S.left source.new) most_input }
-    ensures calls { CallsWithin (most_input + 2) (S.calls source.old) (S.calls source.new) }
-    ensures clean { OnOk result (S.faults source.new ≡ S.faults source.old) }
-    ensures fault { result ≡ Err ReadEnd.SourceFault
-        → Rose (S.faults source.old) (S.faults source.new) }
+    ensures reading { ReadsSource ReadEnd.SourceFault ReadEnd.TooLong S.left S.calls S.faults
+        source.old source.new result }
 {
     match read_image(alloc, source, MOST_INPUT) {
         Ok(image) => Ok(Ok(image)),

@@ -1,9 +1,9 @@
 //! What a command makes of its whole input.
-ghost use Rattle.std.specs.Prelude.{ℕ, ◌≡◌, IfOk, List, OnErr, false};
+ghost use Rattle.std.specs.Prelude.{ℕ, ◌≡◌, List, false};
 ghost use Rattle.m88_cli.specs.Command.{kind_of, shows_boards};
 ghost use Rattle.m88_cli.specs.Inside.Inputs.{IsKeptAs, IsMadeOf};
 ghost use Rattle.m88_cli.specs.Kept.{IsFit, command_of};
-ghost use Rattle.m88_cli.specs.Inside.Reply.{Replies, WatchesFront, WatchesReply};
+ghost use Rattle.m88_cli.specs.Inside.Reply.{AnswersShown};
 
 use crate::assembly::{assemble_source, build_source};
 use crate::commands::Command;
@@ -32,12 +32,8 @@ pub fn reply_to<W: Watch>(
 ) -> Result<Reply, NoMemory>
     requires fit { IsFit command.now }
     requires kept { IsKeptAs (kind_of (command_of command.now)) input.now }
-    ensures reply { (bytes : List ℕ) → IsMadeOf input.now bytes
-        → IfOk result (Replies (command_of command.now) bytes) }
-    ensures watched { (bytes : List ℕ) → IsMadeOf input.now bytes
-        → IfOk result (WatchesReply W.seen watch.old watch.new (command_of command.now) bytes) }
-    ensures front { (bytes : List ℕ) → IsMadeOf input.now bytes
-        → OnErr result (WatchesFront W.seen watch.old watch.new (command_of command.now) bytes) }
+    ensures answers { (bytes : List ℕ) → IsMadeOf input.now bytes
+        → AnswersShown W.seen watch.old watch.new (command_of command.now) bytes result }
     ensures unshown { shows_boards (command_of command.now) ≡ false → watch.new ≡ watch.old }
 {
     match command {

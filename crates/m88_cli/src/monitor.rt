@@ -9,8 +9,8 @@ ghost use Rattle.m88_board.specs.declared.glance.Glance.{Glance};
 ghost use Rattle.m88_cli.specs.MonitorLines.{breakpoint_line};
 ghost use Rattle.m88_cli.specs.Limits.{session_limit};
 ghost use Rattle.m88_cli.specs.Script.{is_break, most_breaks};
-ghost use Rattle.m88_cli.specs.Session.{Course, IsSession, IsSessionFront, Session, course_of, opening_session};
-ghost use Rattle.m88_cli.specs.Inside.SessionKept.{Broke, Carried, Stands};
+ghost use Rattle.m88_cli.specs.Session.{IsSession, IsSessionFront, course_of, opening_session};
+ghost use Rattle.m88_cli.specs.Inside.SessionKept.{Carries};
 
 use crate::script::MonitorCommand;
 use crate::script_lines::MOST_BREAKS;
@@ -74,29 +74,17 @@ impl<'a> Monitor<'a> {
     ) -> Result<(), NoMemory>
         requires { length self.old.breakpoints.items + count_by is_break (command.now ∷ [])
             ≤ most_breaks }
-        ensures set { OnOk result (length self.new.breakpoints.items
-            ≡ length self.old.breakpoints.items + count_by is_break (command.now ∷ [])) }
-        ensures ok { OnOk result ((c : Course) (s : Session) → Stands c s self.old
-            → Carried c s command.now (W.seen watch.old) (W.seen watch.new)
-            text.old.items text.new.items self.new) }
-        ensures err { OnErr result ((c : Course) (s : Session) → Stands c s self.old
-            → Broke c s command.now (W.seen watch.old) (W.seen watch.new)) }
+        ensures { Carries command.now (W.seen watch.old) (W.seen watch.new) self.old self.new
+            text.old.items text.new.items result }
     {
         match command {
             MonitorCommand::Step(count) => self.step(*count, watch, text),
             MonitorCommand::Go => self.go(watch, text),
             MonitorCommand::Break(address) => self.set_breakpoint(*address, text),
-            MonitorCommand::Regs => {
-                push_all_registers(text, self.walk.board())?;
-                Ok(())
-            }
-            MonitorCommand::Pipe => {
-                push_pipe(text, self.walk.board())?;
-                Ok(())
-            }
+            MonitorCommand::Regs => push_all_registers(text, self.walk.board()),
+            MonitorCommand::Pipe => push_pipe(text, self.walk.board()),
             MonitorCommand::Memory { address, count } => {
-                push_words(text, self.walk.board(), *address, *count)?;
-                Ok(())
+                push_words(text, self.walk.board(), *address, *count)
             }
             MonitorCommand::Drain => self.drain(watch, text),
             MonitorCommand::Trace(count) => self.trace(*count, watch, text),

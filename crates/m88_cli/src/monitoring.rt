@@ -10,7 +10,7 @@ ghost use Rattle.m88_cli.specs.Command.{mon};
 ghost use Rattle.m88_cli.specs.Limits.{most_input};
 ghost use Rattle.m88_asm.specs.Inside.Held.{HoldsUnit};
 ghost use Rattle.m88_cli.specs.Monitoring.{IsRefusedMonitor};
-ghost use Rattle.m88_cli.specs.Inside.Reply.{Replies, WatchesFront, WatchesReply};
+ghost use Rattle.m88_cli.specs.Inside.Reply.{AnswersShown};
 ghost use Rattle.m88_cli.specs.Script.{IsScript, is_break, most_breaks, most_commands, script_refusal};
 ghost use Rattle.m88_cli.specs.Session.{IsSession, IsSessionFront, course_of, opening_session};
 
@@ -66,11 +66,8 @@ pub fn run_monitor<W: Watch>(
 ) -> Result<Reply, NoMemory>
     requires size { length input.now ≤ most_input }
     requires pages { NamesPages absent.now }
-    ensures reply { IfOk result (Replies (mon (absent_in absent.now) schedule.now mxm) input.now) }
-    ensures watched { IfOk result (WatchesReply W.seen watch.old watch.new
-        (mon (absent_in absent.now) schedule.now mxm) input.now) }
-    ensures front { OnErr result (WatchesFront W.seen watch.old watch.new
-        (mon (absent_in absent.now) schedule.now mxm) input.now) }
+    ensures { AnswersShown W.seen watch.old watch.new
+        (mon (absent_in absent.now) schedule.now mxm) input.now result }
 {
     let (commands, image) = match script_and_image(alloc, input)? {
         Ok(parts) => parts,

@@ -1,7 +1,8 @@
 //! The word of a command that says which pages are absent.
-ghost use Rattle.std.specs.Prelude.{ℕ, Bool, ◌≡◌, ◌≢◌, ◌≤◌, ◌++◌, ◌∷◌, [], All, List, IfSome, MatchOption, None, OnSome, Some, codes, length};
+ghost use Rattle.std.specs.Prelude.{ℕ, ◌≡◌, ◌≢◌, ◌≤◌, ◌++◌, ◌∷◌, [], All, List, IfSome, None, OnSome, Some, codes, length};
 ghost use Rattle.m88_base.specs.Pages.{IsPage};
 ghost use Rattle.m88_mem.specs.Marks.{NamesPages, absent_in};
+ghost use Rattle.m88_cli.specs.Inside.Reading.{Reads, ReadsFit};
 ghost use Rattle.m88_cli.specs.Pages.{ArePageNumbers, IsAbsent, IsPageNumber, most_numbers};
 
 use crate::numbers::{decimal_number, hexadecimal_number};
@@ -16,10 +17,7 @@ const LAST_PAGE: u32 = PAGE_COUNT as u32 - 1;
 
 /// The absent pages that a text says: `none`, `all`, or 1 to 64 page numbers joined by commas. None for any other text.
 pub fn absent_of(text: &str) -> Option<Absent>
-    ensures found { IfSome result (λ choice. IsAbsent text.now (absent_in choice)) }
-    ensures only { (absent : ℕ → Bool) → IsAbsent text.now absent
-        → MatchOption result ⊥ (λ choice. absent_in choice ≡ absent) }
-    ensures pages { IfSome result NamesPages }
+    ensures { ReadsFit (IsAbsent text.now) absent_in NamesPages result }
 {
     if text == "none" {
         return Some(Absent::None);
@@ -33,12 +31,8 @@ pub fn absent_of(text: &str) -> Option<Absent>
 
 /// The page numbers that a text joins by commas.
 fn page_numbers(text: &[u8]) -> Option<ArrayVec<u32, MOST_NUMBERS>>
-    ensures found { IfSome result (λ numbers. ArePageNumbers text.now numbers.items) }
-    ensures few { IfSome result (λ numbers. length numbers.items ≤ most_numbers) }
-    ensures below { IfSome result (λ numbers. All IsPage numbers.items) }
-    ensures only { (numbers : List ℕ) → ArePageNumbers text.now numbers
-        → length numbers ≤ most_numbers
-        → MatchOption result ⊥ (λ found. found.items ≡ numbers) }
+    ensures { ReadsFit (λ ns. ArePageNumbers text.now ns × (length ns ≤ most_numbers))
+        (λ numbers. numbers.items) (λ numbers. All IsPage numbers.items) result }
 {
     let mut numbers = ArrayVec::new();
     let mut rest = text;
@@ -70,8 +64,7 @@ fn add_number(numbers: &mut ArrayVec<u32, MOST_NUMBERS>, text: &[u8]) -> Option<
 
 /// The number of a page that a text writes.
 fn page_number(text: &[u8]) -> Option<u32>
-    ensures found { IfSome result (IsPageNumber text.now) }
-    ensures only { (n : ℕ) → IsPageNumber text.now n → result ≡ Some n }
+    ensures { Reads (IsPageNumber text.now) result }
 {
     match after_0x(text) {
         Some(digits) => hexadecimal_number(5, digits, LAST_PAGE),

@@ -1,5 +1,5 @@
 //! The top call.
-ghost use Rattle.std.specs.Prelude.{[], ◌≡◌, ◌≢◌, ◌↔◌, ◌⊎◌, ◌+◌, ℕ, List, IfErr, IfOk, OnErr, OnOk, Err, Some, false, length};
+ghost use Rattle.std.specs.Prelude.{[], ◌≡◌, ◌≢◌, ◌↔◌, ◌⊎◌, ◌+◌, ℕ, List, IfErr, IfOk, OnErr, Some, false, length};
 ghost use Rattle.std.specs.Io.KnownBytes.{Appends};
 ghost use Rattle.m88_base.specs.Calls.{CallsWithin};
 ghost use Rattle.m88_base.specs.Causes.{Rose};
@@ -12,6 +12,7 @@ ghost use Rattle.m88_cli.specs.Command.{Command as Choice, SpellNoReader, SpellN
 ghost use Rattle.m88_cli.specs.Kept.{IsFit, command_of};
 ghost use Rattle.m88_cli.specs.Limits.{most_input};
 ghost use Rattle.m88_base.specs.Refusal.{Refusal, refusal_line};
+ghost use Rattle.m88_cli.specs.Inside.Reading.{ReadsSource};
 ghost use Rattle.m88_cli.specs.Inside.Reply.{Replies, WatchesReply};
 ghost use Rattle.m88_cli.specs.Runs.{WorkloadsAreAccepted};
 ghost use Rattle.m88_cli.specs.Script.{HasNoScript, IsScriptOf};
@@ -163,8 +164,8 @@ fn reply_from<S: Source, W: Watch>(
         × WatchesReply W.seen watch.old watch.new (command_of command.now) input reply) }
     ensures unread { reads_input (command_of command.now) ≡ false → source.new ≡ source.old }
     ensures unshown_by { shows_boards (command_of command.now) ≡ false → watch.new ≡ watch.old }
-    ensures calls { CallsWithin (most_input + 2) (S.calls source.old) (S.calls source.new) }
-    ensures clean { OnOk result (S.faults source.new ≡ S.faults source.old) }
+    ensures reading { ReadsSource Status.SourceFault Status.TooLong S.left S.calls S.faults
+        source.old source.new result }
     ensures status { IfErr result IsOfReading }
     ensures memory { IfErr result (λ status. reads_input (command_of command.now) ≡ false
         → status ≡ Status.Memory) }
@@ -172,12 +173,6 @@ fn reply_from<S: Source, W: Watch>(
     ensures front { OnErr result ((watch.new ≡ watch.old) ⊎ ((input : List ℕ)
         × GivesInput (command_of command.now) (S.left source.old) (S.left source.new) input
         × FrontOfAccepted (command_of command.now) input (W.seen watch.old) (W.seen watch.new))) }
-    ensures fault { result ≡ Err Status.SourceFault
-        → Rose (S.faults source.old) (S.faults source.new) }
-    ensures too_long { result ≡ Err Status.TooLong
-        → TakesExactly (S.left source.old) (S.left source.new) (most_input + 1) }
-    ensures not_too_long { result ≢ Err Status.TooLong
-        → TakesAtMost (S.left source.old) (S.left source.new) most_input }
 {
     let input = input_of(alloc, command, source)?;
     let reply = reply_to(alloc, command, &input, watch)?;

@@ -10,7 +10,7 @@ ghost use Rattle.m88_cli.specs.Command.{exec, run};
 ghost use Rattle.m88_cli.specs.Inside.Inputs.{AreRecordsOf};
 ghost use Rattle.m88_cli.specs.Kept.{settings_of};
 ghost use Rattle.m88_cli.specs.Limits.{most_input, most_limit};
-ghost use Rattle.m88_cli.specs.Inside.Reply.{Replies, WatchesFront, WatchesReply};
+ghost use Rattle.m88_cli.specs.Inside.Reply.{AnswersShown};
 ghost use Rattle.m88_cli.specs.Watching.{SawFront, SawRun};
 ghost use Rattle.m88_report.specs.Report.{report_of};
 
@@ -35,12 +35,8 @@ pub fn run_source<W: Watch>(
     requires size { length source.now ≤ most_input }
     requires limit { limit ≤ most_limit }
     requires pages { NamesPages absent.now }
-    ensures reply { IfOk result
-        (Replies (run (settings_of limit absent.now schedule.now mxm)) source.now) }
-    ensures watched { IfOk result (WatchesReply W.seen watch.old watch.new
-        (run (settings_of limit absent.now schedule.now mxm)) source.now) }
-    ensures front { OnErr result (WatchesFront W.seen watch.old watch.new
-        (run (settings_of limit absent.now schedule.now mxm)) source.now) }
+    ensures { AnswersShown W.seen watch.old watch.new
+        (run (settings_of limit absent.now schedule.now mxm)) source.now result }
 {
     match image_of_source(alloc, 0, source)? {
         Ok(image) => run_image(alloc, limit, absent, schedule, mxm, &image, watch),
@@ -60,14 +56,9 @@ pub fn run_records<W: Watch>(
 ) -> Result<Reply, NoMemory>
     requires limit { limit ≤ most_limit }
     requires pages { NamesPages absent.now }
-    ensures reply { (text : List ℕ) → AreRecordsOf records.now text → IfOk result
-        (Replies (exec (settings_of limit absent.now schedule.now mxm)) text) }
-    ensures watched { (text : List ℕ) → AreRecordsOf records.now text → IfOk result
-        (WatchesReply W.seen watch.old watch.new
-        (exec (settings_of limit absent.now schedule.now mxm)) text) }
-    ensures front { (text : List ℕ) → AreRecordsOf records.now text → OnErr result
-        (WatchesFront W.seen watch.old watch.new
-        (exec (settings_of limit absent.now schedule.now mxm)) text) }
+    ensures { (text : List ℕ) → AreRecordsOf records.now text
+        → AnswersShown W.seen watch.old watch.new
+        (exec (settings_of limit absent.now schedule.now mxm)) text result }
 {
     match records {
         Ok(image) => run_image(alloc, limit, absent, schedule, mxm, image, watch),

@@ -1,8 +1,8 @@
 //! What `soak` makes of its number and its count: a run of their workload, and its summary.
-ghost use Rattle.std.specs.Prelude.{ℕ, ◌≤◌, List, IfOk, OnErr};
+ghost use Rattle.std.specs.Prelude.{ℕ, ◌≤◌, List};
 ghost use Rattle.m88_cli.specs.Command.{soak};
 ghost use Rattle.m88_cli.specs.Limits.{most_statements};
-ghost use Rattle.m88_cli.specs.Inside.Reply.{Replies, WatchesFront, WatchesReply};
+ghost use Rattle.m88_cli.specs.Inside.Reply.{AnswersShown};
 
 use crate::assembly::image_of_source;
 use crate::reply::Reply;
@@ -22,11 +22,8 @@ pub fn run_workload<W: Watch>(
     watch: &mut W,
 ) -> Result<Reply, NoMemory>
     requires { count ≤ most_statements }
-    ensures reply { (input : List ℕ) → IfOk result (Replies (soak number count) input) }
-    ensures watched { (input : List ℕ) → IfOk result
-        (WatchesReply W.seen watch.old watch.new (soak number count) input) }
-    ensures front { (input : List ℕ) → OnErr result
-        (WatchesFront W.seen watch.old watch.new (soak number count) input) }
+    ensures { (input : List ℕ)
+        → AnswersShown W.seen watch.old watch.new (soak number count) input result }
 {
     let mut draws = Draws::new(number);
     let source = draws.source(alloc, count)?;

@@ -1,5 +1,5 @@
 -- Data accesses as they are issued, answered and finished.
-use Rattle.std.specs.Prelude.{ℕ, Bool, not, List, [], ◌≡◌, ◌&&◌, ◌++◌, drop, take, length}
+use Rattle.std.specs.Prelude.{ℕ, not, List, [], ◌≡◌, ◌&&◌, ◌++◌, drop, take, length}
 use Rattle.m88_ctrl.specs.ControlRegisters.{ControlRegisters}
 use Rattle.m88_ctrl.specs.declared.frame.Restart.{Restart}
 use Rattle.m88_event.specs.Choice.{touches_page}

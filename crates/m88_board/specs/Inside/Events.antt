@@ -1,8 +1,7 @@
 -- What the event of a letter brings, and what it tells of its instruction.
-use Rattle.std.specs.Prelude.{ℕ, List, Option, OnOk, OnErr, ◌<◌, ◌+◌, Bool, true, Result, Ok, Err, IfOk, ◌≡◌, ◌-◌}
+use Rattle.std.specs.Prelude.{ℕ, List, Option, Bool, true, Result, Ok, Err, IfOk, ◌≡◌}
 use Rattle.m88_base.specs.Image.{byte_at}
 use Rattle.m88_base.specs.declared.failing.NoMemory.{NoMemory}
-use Rattle.m88_event.specs.Bound.{weight}
 use Rattle.m88_event.specs.Choice.{issues}
 use Rattle.m88_event.specs.Local.{choice_by, record_by}
 use Rattle.m88_event.specs.Timeline.{Moment}
@@ -75,14 +74,6 @@ abbrev pub ShownOrStays : Letter → BoardView → Option (List Glance) → Opti
     BoardView → Type 0
 ShownOrStays letter old before after (Ok brief) new = HappensShown letter old before after brief new
 ShownOrStays letter old before after (Err e) new = IsUnmoved old new
-
--- a walk takes the letter of an event, and less of the run is left; it takes none where memory ran out
-pub record TakesLetter (schedule schedule' : List Letter) (taken : ℕ) (old : BoardView) (result : Result Brief NoMemory)
-    (taken' : ℕ) (new : BoardView) : Type 0 where
-  pub taken_one : OnOk result (taken' ≡ taken + 1)
-  pub lighter : OnOk result
-      (weight schedule' new.limit taken' (local_of new) < weight schedule old.limit taken (local_of old))
-  pub untaken : OnErr result (taken' ≡ taken)
 
 -- what an event tells of its instruction at a moment, where somebody asks, and that it tells of no accesses but those
 -- of words if none were told before

@@ -1,5 +1,5 @@
 -- What the reply to an input says, and what a watch was shown on the way to it.
-use Rattle.std.specs.Prelude.{ℕ, ◌≡◌, ◌⊎◌, List, Option, MatchBool, false}
+use Rattle.std.specs.Prelude.{ℕ, ◌≡◌, ◌⊎◌, List, Option, Result, IfOk, MatchBool, OnErr, false}
 use Rattle.m88_base.specs.Refusal.{Refusal, refusal_line}
 use Rattle.m88_board.specs.declared.glance.Glance.{Glance}
 use Rattle.m88_cli.specs.Answer.{IsAnswerToAccepted, IsAnswerToRefused}
@@ -21,6 +21,14 @@ WatchesReply seen old new command input r =
 -- where there is no reply it was shown a front of that, and the command accepts the input, or is as it was
 abbrev pub WatchesFront : {W : Type 0} → (W → Option (List Glance)) → W → W → Command → List ℕ → Type 0
 WatchesFront seen old new command input = (new ≡ old) ⊎ FrontOfAccepted command input (seen old) (seen new)
+
+-- a command answers an input, and shows a watch what it does: the reply says what it is to the input; the watch was
+-- shown the whole where the input is accepted; and without a reply a front of that, or nothing
+pub record AnswersShown {W E : Type 0} (seen : W → Option (List Glance)) (old new : W) (command : Command)
+    (input : List ℕ) (result : Result Reply E) : Type 0 where
+  pub reply : IfOk result (Replies command input)
+  pub watched : IfOk result (WatchesReply seen old new command input)
+  pub front : OnErr result (WatchesFront seen old new command input)
 
 -- the reply is the line of a refusal
 pub record IsRefusalOf (r : Refusal) (reply : Reply) : Type 0 where

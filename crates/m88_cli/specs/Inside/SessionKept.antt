@@ -1,5 +1,5 @@
 -- Where the monitor stands, and what a command made of it.
-use Rattle.std.specs.Prelude.{ℕ, List, ◌++◌, ◌≡◌, ◌+◌, Option, length}
+use Rattle.std.specs.Prelude.{ℕ, List, [], ◌∷◌, ◌++◌, ◌≡◌, ◌+◌, Option, Result, OnErr, OnOk, count_by, length}
 use Rattle.m88_event.specs.Timeline.{Moment, nip_at}
 use Rattle.m88_event.specs.declared.happened.Happened.{Happened}
 use Rattle.m88_event.specs.declared.letter.Letter.{Letter}
@@ -8,6 +8,7 @@ use Rattle.m88_isa.specs.Machine.{IsProgram, Program}
 use Rattle.m88_board.specs.Glances.{Saw}
 use Rattle.m88_board.specs.Moves.{IsAt}
 use Rattle.m88_board.specs.declared.glance.Glance.{Glance}
+use Rattle.m88_cli.specs.Script.{is_break}
 use Rattle.m88_cli.specs.Session.{Course, Makes, MakesEach, Session, after_command, glances_of, text_of_command}
 use Rattle.m88_cli.specs.MonitorLines.{happened_line, letter_text}
 use Rattle.m88_cli.specs.declared.monitor.Monitor.{Monitor}
@@ -43,6 +44,16 @@ pub record Broke (c : Course) (s : Session) (command : MonitorCommand) (before a
   pub events : ℕ
   pub each : MakesEach c s command events
   pub saw : Saw before after (glances_of c s command events)
+
+-- what the monitor answers to a command, wherever in a session it stands: where the command was carried out, there are as
+-- many breakpoints more as it sets, and it went and wrote its text; and else memory ran out behind its first events
+pub record Carries {T E : Type 0} (command : MonitorCommand) (before after : Option (List Glance)) (old new : Monitor)
+    (text text' : List ℕ) (result : Result T E) : Type 0 where
+  pub set : OnOk result (length new.breakpoints.items
+      ≡ length old.breakpoints.items + count_by is_break (command ∷ []))
+  pub ok : OnOk result ((c : Course) (s : Session) → Stands c s old
+      → Carried c s command before after text text' new)
+  pub err : OnErr result ((c : Course) (s : Session) → Stands c s old → Broke c s command before after)
 
 -- what is noted before the event of a letter is so at a moment
 pub record IsBefore (p : Program) (letter : Letter) (m : Moment) (before : Before) : Type 0 where

@@ -1,8 +1,6 @@
 //! The commands that make events: a number of them, up to a breakpoint, and draining.
 
-ghost use Rattle.std.specs.Prelude.{◌≡◌, OnErr, OnOk};
-ghost use Rattle.m88_cli.specs.Session.{Course, Session};
-ghost use Rattle.m88_cli.specs.Inside.SessionKept.{Broke, Carried, Stands};
+ghost use Rattle.m88_cli.specs.Inside.SessionKept.{Carries};
 ghost use Rattle.m88_cli.specs.declared.script.MonitorCommand.TheVariants.{Step, Go, Drain};
 
 use super::Monitor;
@@ -18,32 +16,22 @@ impl<'a> Monitor<'a> {
         watch: &mut W,
         text: &mut Vec<u8>,
     ) -> Result<(), NoMemory>
-        ensures kept { self.new.breakpoints ≡ self.old.breakpoints }
-        ensures ok { OnOk result ((c : Course) (s : Session) → Stands c s self.old
-            → Carried c s (Step count) (W.seen watch.old) (W.seen watch.new)
-            text.old.items text.new.items self.new) }
-        ensures err { OnErr result ((c : Course) (s : Session) → Stands c s self.old
-            → Broke c s (Step count) (W.seen watch.old) (W.seen watch.new)) }
+        ensures { Carries (Step count) (W.seen watch.old) (W.seen watch.new) self.old self.new
+            text.old.items text.new.items result }
     {
         self.walk.go_until(Until::Made(count), watch)?;
-        push_counts(text, self.walk.board())?;
-        Ok(())
+        push_counts(text, self.walk.board())
     }
 
     /// `go`: events until the run is over or, after one at least, the next instruction stands at a breakpoint; then the
     /// line of the counts.
     pub(super) fn go<W: Watch>(&mut self, watch: &mut W, text: &mut Vec<u8>) -> Result<(), NoMemory>
-        ensures kept { self.new.breakpoints ≡ self.old.breakpoints }
-        ensures ok { OnOk result ((c : Course) (s : Session) → Stands c s self.old
-            → Carried c s Go (W.seen watch.old) (W.seen watch.new)
-            text.old.items text.new.items self.new) }
-        ensures err { OnErr result ((c : Course) (s : Session) → Stands c s self.old
-            → Broke c s Go (W.seen watch.old) (W.seen watch.new)) }
+        ensures { Carries Go (W.seen watch.old) (W.seen watch.new) self.old self.new
+            text.old.items text.new.items result }
     {
         self.walk
             .go_until(Until::Breakpoint(self.breakpoints.as_slice()), watch)?;
-        push_counts(text, self.walk.board())?;
-        Ok(())
+        push_counts(text, self.walk.board())
     }
 
     /// `drain`: the letter `r` until nothing is pending, which is none of the run's letters; then the line of the
@@ -53,15 +41,10 @@ impl<'a> Monitor<'a> {
         watch: &mut W,
         text: &mut Vec<u8>,
     ) -> Result<(), NoMemory>
-        ensures kept { self.new.breakpoints ≡ self.old.breakpoints }
-        ensures ok { OnOk result ((c : Course) (s : Session) → Stands c s self.old
-            → Carried c s Drain (W.seen watch.old) (W.seen watch.new)
-            text.old.items text.new.items self.new) }
-        ensures err { OnErr result ((c : Course) (s : Session) → Stands c s self.old
-            → Broke c s Drain (W.seen watch.old) (W.seen watch.new)) }
+        ensures { Carries Drain (W.seen watch.old) (W.seen watch.new) self.old self.new
+            text.old.items text.new.items result }
     {
         self.walk.drain(watch)?;
-        push_counts(text, self.walk.board())?;
-        Ok(())
+        push_counts(text, self.walk.board())
     }
 }

@@ -12,13 +12,13 @@ ghost use Rattle.m88_board.specs.Moves.{IsAt};
 ghost use Rattle.m88_report.specs.Report.{record_lines, word_line};
 ghost use Rattle.m88_cli.specs.MonitorLines.{breakpoint_line, counts_line, counts_text, registers_at, registers_text, words_from, words_text};
 
-use m88_base::{Reg, push_decimal, push_hex8};
+use m88_base::{NoMemory, Reg, push_decimal, push_hex8};
 use m88_board::Board;
 use m88_report::{push_carry, push_record, push_registers, push_word};
 use std::alloc::AllocError;
 
 /// Appends the line of the counts: events, instructions retired, transactions done, transactions pending.
-pub(super) fn push_counts(text: &mut Vec<u8>, board: &Board) -> Result<(), AllocError>
+pub(super) fn push_counts(text: &mut Vec<u8>, board: &Board) -> Result<(), NoMemory>
     ensures { OnOk result ((p : Program) (named : ℕ → Bool) (m : Moment) → IsAt p named m board.now
         → text.new.items ≡ text.old.items ++ counts_text p m) }
 {
@@ -28,7 +28,8 @@ pub(super) fn push_counts(text: &mut Vec<u8>, board: &Board) -> Result<(), Alloc
         board.issued(),
         board.done(),
         board.pending(),
-    )
+    )?;
+    Ok(())
 }
 
 /// Appends that line of such counts.
@@ -56,12 +57,13 @@ fn push_count_line(
 }
 
 /// Appends the lines of the registers, of which one that waits for a load has no value, and that of the carry.
-pub(super) fn push_all_registers(text: &mut Vec<u8>, board: &Board) -> Result<(), AllocError>
+pub(super) fn push_all_registers(text: &mut Vec<u8>, board: &Board) -> Result<(), NoMemory>
     ensures { OnOk result ((p : Program) (named : ℕ → Bool) (m : Moment) → IsAt p named m board.now
         → text.new.items ≡ text.old.items ++ registers_text p m) }
 {
     push_registers(text, &registers_of(board))?;
-    push_carry(text, board.carry())
+    push_carry(text, board.carry())?;
+    Ok(())
 }
 
 /// r0 to r31, as the board shows them.
@@ -79,11 +81,12 @@ fn registers_of(board: &Board) -> [Option<u32>; 32]
 }
 
 /// Appends the four lines of the record that a data fault now would leave.
-pub(super) fn push_pipe(text: &mut Vec<u8>, board: &Board) -> Result<(), AllocError>
+pub(super) fn push_pipe(text: &mut Vec<u8>, board: &Board) -> Result<(), NoMemory>
     ensures { OnOk result ((p : Program) (named : ℕ → Bool) (m : Moment) → IsAt p named m board.now
         → text.new.items ≡ text.old.items ++ record_lines (record_at p named board.now.limit m)) }
 {
-    push_record(text, &board.pipe())
+    push_record(text, &board.pipe())?;
+    Ok(())
 }
 
 /// Appends the lines of so many words of the data bus, from the word of a byte address on, modulo 2^32.
@@ -92,7 +95,7 @@ pub(super) fn push_words(
     board: &Board,
     address: u32,
     count: u32,
-) -> Result<(), AllocError>
+) -> Result<(), NoMemory>
     ensures value { OnOk result (text.new.items ≡ text.old.items
         ++ flat_map word_line (words_from (bus_of board.now.memory) (word_address address) count)) }
     ensures moment { OnOk result ((p : Program) (named : ℕ → Bool) (m : Moment)

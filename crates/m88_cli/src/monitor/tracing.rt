@@ -1,6 +1,6 @@
 //! The command `trace`, which tells events one by one.
 
-ghost use Rattle.std.specs.Prelude.{ℕ, Bool, ◌≡◌, ◌++◌, ◌%◌, Option, IfSome, OnErr, OnOk, codes, decimal};
+ghost use Rattle.std.specs.Prelude.{ℕ, Bool, ◌≡◌, ◌++◌, ◌%◌, Option, IfSome, OnOk, codes, decimal};
 ghost use Rattle.m88_base.specs.Hex.{hex2, hex8};
 ghost use Rattle.m88_base.specs.Lines.{line_end};
 ghost use Rattle.m88_event.specs.Timeline.{Moment};
@@ -9,8 +9,7 @@ ghost use Rattle.m88_isa.specs.Instr.{IsValid};
 ghost use Rattle.m88_isa.specs.Machine.{Program};
 ghost use Rattle.m88_board.specs.Moves.{IsAt};
 ghost use Rattle.m88_cli.specs.MonitorLines.{happened_line, issue_line, letter_text, text_of_any, why_line};
-ghost use Rattle.m88_cli.specs.Session.{Course, Session};
-ghost use Rattle.m88_cli.specs.Inside.SessionKept.{Broke, Carried, IsBefore, Stands, told_line};
+ghost use Rattle.m88_cli.specs.Inside.SessionKept.{Carries, IsBefore, told_line};
 ghost use Rattle.m88_cli.specs.declared.script.MonitorCommand.TheVariants.{Trace};
 
 use super::Monitor;
@@ -46,12 +45,8 @@ impl<'a> Monitor<'a> {
         watch: &mut W,
         text: &mut Vec<u8>,
     ) -> Result<(), NoMemory>
-        ensures kept { self.new.breakpoints ≡ self.old.breakpoints }
-        ensures ok { OnOk result ((c : Course) (s : Session) → Stands c s self.old
-            → Carried c s (Trace count) (W.seen watch.old) (W.seen watch.new)
-            text.old.items text.new.items self.new) }
-        ensures err { OnErr result ((c : Course) (s : Session) → Stands c s self.old
-            → Broke c s (Trace count) (W.seen watch.old) (W.seen watch.new)) }
+        ensures { Carries (Trace count) (W.seen watch.old) (W.seen watch.new) self.old self.new
+            text.old.items text.new.items result }
     {
         for _made in 0..count {
             if self.walk.board().is_over() {

@@ -2,6 +2,7 @@
 use Rattle.std.specs.Prelude.{ℕ, Bool, true, List, Option, ◌≡◌, ◌+◌, ◌<◌, ◌-◌, take}
 use Rattle.m88_base.specs.Image.{ProgramImage}
 use Rattle.m88_board.specs.Board.{BoardView, local_of}
+use Rattle.m88_board.specs.Calls.{StaysOnRun}
 use Rattle.m88_board.specs.Moves.{IsAt}
 use Rattle.m88_board.specs.declared.walk.Walk.{Walk}
 use Rattle.m88_event.specs.Bound.{weight}
@@ -35,9 +36,7 @@ pub record HasPagedStep (original : ℕ → ℕ) (w v : Walk) (f g : Frames) (to
   pub taken : v.taken ≡ w.taken + 1
   pub lighter : weight v.schedule.now v.board.now.limit v.taken (local_of v.board.now)
       < weight w.schedule.now w.board.now.limit w.taken (local_of w.board.now)
-  pub limit : v.board.now.limit ≡ w.board.now.limit
-  pub schedule : v.schedule ≡ w.schedule
-  pub lender : v.board.ghost_name ≡ w.board.ghost_name
+  pub stays : StaysOnRun w v
   pub within : IsWithin v.board.now.done g
   pub carried : AreCarriedOn original (take (v.board.now.done - w.board.now.done) w.board.now.pending) f g told told'
 

@@ -1,6 +1,7 @@
 -- A trace that is being written of a run on a board.
 use Rattle.std.specs.Prelude.{ℕ, Bool, false, ◌≡◌, ◌<◌, ◌+◌}
 use Rattle.m88_board.specs.Board.{local_of}
+use Rattle.m88_board.specs.Calls.{StaysOnRun}
 use Rattle.m88_board.specs.Moves.{IsAt}
 use Rattle.m88_board.specs.declared.walk.Walk.{Walk}
 use Rattle.m88_event.specs.Bound.{weight}
@@ -34,5 +35,4 @@ pub record HasTracedStep (w v : Walk) (s t : Sheet) : Type 0 where
   pub taken : v.taken ≡ w.taken + 1
   pub lighter : weight v.schedule.now v.board.now.limit v.taken (local_of v.board.now)
       < weight w.schedule.now w.board.now.limit w.taken (local_of w.board.now)
-  pub limit : v.board.now.limit ≡ w.board.now.limit
-  pub schedule : v.schedule ≡ w.schedule
+  pub stays : StaysOnRun w v

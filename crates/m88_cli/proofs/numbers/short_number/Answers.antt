@@ -3,10 +3,11 @@ use Rattle.std.proofs.Common.{◌∙◌}
 use Rattle.m88_cli.proofs.Numerals.{short_found, short_told}
 use Rattle.m88_cli.proofs.numbers.short_number.Goals as goal
 
-pub returns-then-text-most_digits-clause-found : goal.returns-then-text-most_digits-clause-found
-returns-then-text-most_digits-clause-found c =
-    short_found c.args.base c.args.most_digits c.args.most c.args.text.now c.number_in.result c.if-text-most_digits.true c.number_in.ensures.value
-
-pub returns-then-text-most_digits-clause-only : goal.returns-then-text-most_digits-clause-only
-returns-then-text-most_digits-clause-only c = λ n below is.
-    c.number_in.ensures.value ∙ short_told c.args.base c.args.most_digits c.args.most n c.args.text.now below is
+pub returns-then-text-most_digits : goal.returns-then-text-most_digits
+returns-then-text-most_digits c = record {
+  found = short_found c.args.base c.args.most_digits c.args.most c.args.text.now c.number_in.result c.if-text-most_digits.true
+      c.number_in.ensures.value;
+  bound = c.number_in.ensures.bound;
+  only = λ n below is.
+      c.number_in.ensures.value ∙ short_told c.args.base c.args.most_digits c.args.most n c.args.text.now below is;
+}

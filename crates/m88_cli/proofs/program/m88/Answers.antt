@@ -10,7 +10,7 @@ use Rattle.m88_cli.proofs.BridgeListings.{listed_builds_alike}
 use Rattle.m88_cli.proofs.BridgeTraces.{traced_is_checked}
 use Rattle.m88_cli.proofs.OneScript as scripts
 use Rattle.m88_cli.proofs.OneSource.{one_verdict, refused_not_accepted}
-use Rattle.m88_cli.proofs.Whole.{accepted_reply, answer_of, line_of_reply, not_part, not_whole, of_err, only_memory, refusal_some, refused_reply, reply_given, reply_whole, shown_if, unanswered, writes_text, wrote_nothing}
+use Rattle.m88_cli.proofs.Whole.{answer_of, line_of_reply, not_part, not_whole, of_err, only_memory, refusal_some, reply_given, reply_whole, shown_if, unanswered, writes_text, wrote_nothing}
 use Rattle.m88_cli.proofs.program.m88.Goals as goal
 
 pub returns-in_default-clause-refusal : goal.returns-in_default-clause-refusal
@@ -30,7 +30,7 @@ returns-then-reply-clause-refusal g c = λ command input refusal spelled refused
     let ok = c.in-Ok.ensures.ok in
     let same : command_of c.in-Some.command ≡ command = c.in-Some.ensures.only command spelled in
     let replies = reply_whole command (command_of c.in-Some.command) _ _ input refusal c.in-Ok.reply same refused had left (ok.0, ok.1, ok.2) in
-    absurd (refused_not_accepted command input refusal refused (accepted_reply command input c.in-Ok.reply c.if-reply.true replies).accepted)
+    absurd (refused_not_accepted command input refusal refused (rw c.if-reply.true at replies).accepted)
 
 pub returns-then-is_err-clause-refusal : goal.returns-then-is_err-clause-refusal
 returns-then-is_err-clause-refusal g c = λ command input refusal spelled refused had left whole.
@@ -62,8 +62,8 @@ pub returns-in-Err-clause-complete : goal.returns-in-Err-clause-complete
 returns-in-Err-clause-complete g c = λ command input spelled holds sound unfailing.
     let same : command_of c.in-Some.command ≡ command = c.in-Some.ensures.only command spelled in
     unanswered (Accepts command input) command (g.S.Source.left c.args.source.now) (g.S.Source.left c.reply_from.new.source)
-    input c.in-Err.status holds c.in-Err.ensures.status (λ e. sound (c.reply_from.ensures.fault (c.in-Err.is ∙ ap Err e)))
-    (λ e. c.reply_from.ensures.too_long (c.in-Err.is ∙ ap Err e)) (λ e. c.in-Err.ensures.memory (ap reads_input same ∙ e))
+    input c.in-Err.status holds c.in-Err.ensures.status (λ e. sound (c.reply_from.ensures.reading.fault (c.in-Err.is ∙ ap Err e)))
+    (λ e. c.reply_from.ensures.reading.too_long (c.in-Err.is ∙ ap Err e)) (λ e. c.in-Err.ensures.memory (ap reads_input same ∙ e))
 
 pub returns-then-reply-clause-complete : goal.returns-then-reply-clause-complete
 returns-then-reply-clause-complete g c = λ command input spelled holds sound unfailing.
@@ -71,7 +71,7 @@ returns-then-reply-clause-complete g c = λ command input spelled holds sound un
     let same : command_of c.in-Some.command ≡ command = c.in-Some.ensures.only command spelled in
     let replies = reply_given command (command_of c.in-Some.command) (g.S.Source.left c.args.source.now) (g.S.Source.left c.reply_from.new.source) input c.in-Ok.reply same
     holds (ok.0, ok.1, ok.2) in
-    inr (inl ((accepted_reply command input c.in-Ok.reply c.if-reply.true replies).accepted, refl))
+    inr (inl ((rw c.if-reply.true at replies).accepted, refl))
 
 pub returns-clause-complete : goal.returns-clause-complete
 returns-clause-complete g c = λ command input spelled holds sound unfailing.
@@ -79,7 +79,7 @@ returns-clause-complete g c = λ command input spelled holds sound unfailing.
     let same : command_of c.in-Some.command ≡ command = c.in-Some.ensures.only command spelled in
     let replies = reply_given command (command_of c.in-Some.command) (g.S.Source.left c.args.source.now) (g.S.Source.left c.reply_from.new.source) input c.in-Ok.reply same
     holds (ok.0, ok.1, ok.2) in
-    inr (inr ((refused_reply command input c.in-Ok.reply c.if-reply.false replies).unaccepted, refl))
+    inr (inr ((rw c.if-reply.false at replies).unaccepted, refl))
 
 pub returns-in_default-clause-reads : goal.returns-in_default-clause-reads
 returns-in_default-clause-reads g c = calls_none _ _

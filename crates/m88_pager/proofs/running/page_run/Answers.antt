@@ -51,9 +51,9 @@ loop-walk-preserved g c =
     let older = inv.grows in
     let newer = c.step.ensures.store.grows in
     record {
-      limit = stepped.limit ∙ inv.limit;
-      schedule = ap (λ (s : Bor (List Letter)). s.now) stepped.schedule ∙ inv.schedule;
-      lender = stepped.lender ∙ inv.lender;
+      limit = stepped.stays.same.limit ∙ inv.limit;
+      schedule = ap (λ (s : Bor (List Letter)). s.now) stepped.stays.schedule ∙ inv.schedule;
+      lender = stepped.stays.lender ∙ inv.lender;
       within = stepped.within;
       cap = stepped.carried.cap ∙ inv.cap;
       tells = c.step.ensures.store.tells ∙ inv.tells;

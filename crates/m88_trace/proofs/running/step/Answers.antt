@@ -20,17 +20,16 @@ returns-in_ok-happened-in-Issue c = ok_both c.note_issue.result c.note_issue.ens
     let next = c.in_ok-happened-in-Issue.ensures in
     record {
       made = made;
-      at = λ p named m at. (next.ok p named m at).at;
+      at = λ p named m at. (next.goes.ok p named m at).at;
       traced = λ p named m is at traced.
           let there = subst (λ (b : BoardView). IsAt p named m b) (sym c.board.ensures) at in
           subst (λ (l : Letter). IsTraced p (after_letter p named limit l m) c.note_issue.new.self) (sym letter)
           (noted p named limit m is at.past at.within (c.upcoming_on-next.ensures p named m there)
           (next.told letter p named m at)
-          (next.said p named m at ∙ ap (λ (l : Letter). said_at p named limit l m) letter) traced);
-      taken = next.taken;
-      lighter = next.lighter;
-      limit = next.same.limit;
-      schedule = next.schedule;
+          (next.goes.said p named m at ∙ ap (λ (l : Letter). said_at p named limit l m) letter) traced);
+      taken = next.goes.takes.taken;
+      lighter = next.goes.takes.lighter;
+      stays = next.goes.takes.stays;
     })
 
 pub returns-in_ok-happened-in-Answer : goal.returns-in_ok-happened-in-Answer
@@ -41,18 +40,17 @@ returns-in_ok-happened-in-Answer c =
     let next = c.in_ok-happened-in-Answer.ensures in
     record {
       made = c.note_answer.ensures.made;
-      at = λ p named m at. (next.ok p named m at).at;
+      at = λ p named m at. (next.goes.ok p named m at).at;
       traced = λ p named m is at traced.
           let there = subst (λ (b : BoardView). IsAt p named m b) (sym c.board-in-Answer.ensures) at in
           let due = data_at p named m c.board-in-Answer.result.now c.args.sheet.now c.data-due.result there traced
           (c.data-due.ensures (few_wait p limit m c.args.sheet.now at.past traced)) in
           subst (λ (l : Letter). IsTraced p (after_letter p named limit l m) c.note_answer.new.self) (sym letter)
           (c.note_answer.ensures.traced p named limit m at.past at.within due
-          (next.said p named m at ∙ ap (λ (l : Letter). said_at p named limit l m) letter) traced);
-      taken = next.taken;
-      lighter = next.lighter;
-      limit = next.same.limit;
-      schedule = next.schedule;
+          (next.goes.said p named m at ∙ ap (λ (l : Letter). said_at p named limit l m) letter) traced);
+      taken = next.goes.takes.taken;
+      lighter = next.goes.takes.lighter;
+      stays = next.goes.takes.stays;
     }
 
 pub returns-in_ok-next-in-Evict : goal.returns-in_ok-next-in-Evict
@@ -62,12 +60,11 @@ returns-in_ok-next-in-Evict c =
     let next = c.in_ok-next-in-Evict.ensures in
     record {
       made = c.requires.made;
-      at = λ p named m at. (next.ok p named m at).at;
+      at = λ p named m at. (next.goes.ok p named m at).at;
       traced = λ p named m is at traced.
           subst (λ (l : Letter). IsTraced p (after_letter p named w.board.now.limit l m) c.args.sheet.now) (sym letter)
           (evicted_note p named w.board.now.limit m c.args.sheet.now traced);
-      taken = next.taken;
-      lighter = next.lighter;
-      limit = next.same.limit;
-      schedule = next.schedule;
+      taken = next.goes.takes.taken;
+      lighter = next.goes.takes.lighter;
+      stays = next.goes.takes.stays;
     }

@@ -32,8 +32,8 @@ loop-walk-preserved c =
     let inv = c.loop-walk.invariant in
     let stepped = c.in_ok-step.ensures in
     record {
-      limit = stepped.limit ∙ inv.limit;
-      schedule = ap (λ (s : Bor (List Letter)). s.now) stepped.schedule ∙ inv.schedule;
+      limit = stepped.stays.same.limit ∙ inv.limit;
+      schedule = ap (λ (s : Bor (List Letter)). s.now) stepped.stays.schedule ∙ inv.schedule;
       made = stepped.made;
       runs = λ p of clear.
           let runs = inv.runs p of clear in

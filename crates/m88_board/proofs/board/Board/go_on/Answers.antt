@@ -1,5 +1,5 @@
 -- The instruction is issued, and makes no access.
-use Rattle.std.proofs.Common.{◌∙◌, ap, refl, rules, subst}
+use Rattle.std.proofs.Common.{◌∙◌, ap, refl, subst}
 use Rattle.m88_base.specs.declared.slot.Slot.{Slot}
 use Rattle.m88_event.specs.Choice.{issues}
 use Rattle.m88_event.specs.declared.letter.Letter.TheVariants.{Issue}

@@ -1,5 +1,5 @@
 -- What the letter `i` comes to.
-use Rattle.std.proofs.Common.{ℕ, ◌≡◌, ◌∙◌, Bool, not, ap, refl, sym, subst, true, false}
+use Rattle.std.proofs.Common.{ℕ, ◌≡◌, ◌∙◌, Bool, not, ap, refl, sym, subst, true}
 use Rattle.std.specs.Prelude.{◌%◌}
 use Rattle.m88_base.specs.declared.slot.Slot.{Slot}
 use Rattle.m88_event.specs.Choice.{idles, passes}

@@ -34,7 +34,7 @@ went g c p named is at =
 
 pub returns-clause-outcome : goal.returns-clause-outcome
 returns-clause-outcome g c =
-    let lent = c.self-2-1.given.1 (sym (c.go_until.ensures.lender ∙ c.new-walk.ensures.lender)) in
+    let lent = c.self-2-1.given.1 (sym (c.go_until.ensures.stays.lender ∙ c.new-walk.ensures.lender)) in
     IfOk-weaker c.outcome.result
     (λ (o : Outcome). (p : Program) (named : ℕ → Bool) (m : Moment) → IsAt p named m c.self-2-1.given.0
     → is_over p c.self-2-1.given.0.limit m ≡ true → o ≡ outcome_at p m)
@@ -48,7 +48,7 @@ returns-clause-outcome g c =
       run = run.1;
       value = value p named last (subst (λ (b : BoardView). IsAt p named last b) (sym lent) run.2.at)
           (ap (λ (limit : ℕ). is_over p limit last)
-          (ap (λ (b : BoardView). b.limit) lent ∙ c.go_until.ensures.same.limit
+          (ap (λ (b : BoardView). b.limit) lent ∙ c.go_until.ensures.stays.same.limit
           ∙ ap (λ (b : BoardView). b.limit) c.new-walk.ensures.board)
           ∙ run.1.here);
     })
@@ -57,7 +57,7 @@ returns-clause-outcome g c =
 pub returns-clause-watched : goal.returns-clause-watched
 returns-clause-watched g c =
     let end = c.go_until.new.self.board.now in
-    let lent = c.self-2-1.given.1 (sym (c.go_until.ensures.lender ∙ c.new-walk.ensures.lender)) in
+    let lent = c.self-2-1.given.1 (sym (c.go_until.ensures.stays.lender ∙ c.new-walk.ensures.lender)) in
     IfOk-weaker c.outcome.result
     (λ (o : Outcome). o.events ≡ c.self-2-1.given.0.events)
     (λ (o : Outcome). (p : Program) (named : ℕ → Bool) → IsProgram p → IsAt p named opening_moment c.args.self

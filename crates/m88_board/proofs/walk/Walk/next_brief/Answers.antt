@@ -15,12 +15,13 @@ invariant_of-self g c = record {
 
 pub returns-clause-takes : goal.returns-clause-takes
 returns-clause-takes g c = record {
-  taken_one = refl;
+  taken = refl;
   lighter =
       let event = c.in_ok-brief.ensures.happens.happens in
       lighter_next c.args.self.now.schedule.now c.args.self.now.taken c.letter-letter.result c.args.self.now.board.now c.step.new.self
       c.args.self.now.bounded c.requires c.letter-letter.ensures event.kept event.same (λ p of. (event.moved p of).moved);
   untaken = tt;
+  stays = record { same = c.in_ok-brief.ensures.happens.happens.same; schedule = refl; lender = refl };
 }
 
 pub invariant_of-self-2 : goal.invariant_of-self-2
