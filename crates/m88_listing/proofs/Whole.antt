@@ -1,6 +1,6 @@
 -- The whole text of a listing, and where a text stands whole behind what a sink held.
-use Rattle.std.proofs.Common.{◌≡◌, ℕ, ◌<◌, ◌≤◌, ◌+◌, List, [], ◌++◌, Option, Some, None, Bool, true, false, inl, inr, refl, Result, Ok, Err, length, length-append, take, drop, ap, sym, ◌∙◌, subst, arith}
-use Rattle.std.specs.Prelude.{◌⊎◌, IfOk, MatchBool, OnErr, codes, is_err}
+use Rattle.std.proofs.Common.{◌≡◌, ℕ, ◌<◌, ◌≤◌, ◌+◌, List, [], ◌++◌, Option, Some, None, Bool, true, false, inl, inr, Result, Ok, Err, length, length-append, take, drop, ap, sym, ◌∙◌, subst, arith}
+use Rattle.std.specs.Prelude.{MatchBool, OnErr, codes, is_err}
 use Rattle.std.specs.Io.KnownBytes.{Consumes}
 use Rattle.std.proofs.lemmas.Bool.{ltb-false}
 use Rattle.std.proofs.lemmas.List.{append-nil, length-take-le}
@@ -9,27 +9,23 @@ use Rattle.m88_base.specs.Lines.{line_end, lines_of, text_of_lines}
 use Rattle.m88_base.specs.Outside.{AppendsPart}
 use Rattle.m88_base.specs.Refusal.{Refusal}
 use Rattle.m88_base.specs.Refused.{refused_line}
-use Rattle.m88_base.specs.declared.failing.NoMemory.{NoMemory}
-use Rattle.m88_parse.specs.Fault.{out_of_memory}
-use Rattle.m88_parse.specs.Language.FirstFaults.{IsFirstFault}
 use Rattle.m88_parse.specs.Language.Units.{IsUnit}
-use Rattle.m88_parse.specs.declared.fault.ParseFault.{ParseFault}
 use Rattle.m88_parse.specs.declared.unit.Unit.{Unit as Source}
 use Rattle.m88_link.proofs.Laws.{too_large_is}
 use Rattle.m88_link.specs.Refusal.{is_too_large}
 use Rattle.m88_link.specs.Inside.Sizes.{total_size}
-use Rattle.m88_asm.proofs.Laws.{extents_law, modules_sound}
-use Rattle.m88_asm.specs.Accepted.{IsAcceptedUnit, IsOutOfMemory, IsUnitFault}
+use Rattle.m88_asm.proofs.Laws.{extents_law, modules_sound, not_linked, same_program_refusal}
+use Rattle.m88_asm.specs.Accepted.{IsAcceptedUnit}
 use Rattle.m88_asm.specs.Images.{IsUnitImage}
 use Rattle.m88_asm.specs.Objects.{objects_of}
+use Rattle.m88_asm.specs.Sources.{IsRefusedProgram}
 use Rattle.m88_asm.specs.Units.{based}
-use Rattle.m88_asm.specs.declared.fault.UnitFault.{UnitFault}
 use Rattle.m88_listing.specs.Answer.{IsAnswer, IsAnswerToAccepted, IsAnswerToRefused}
 use Rattle.m88_listing.specs.Calls.{GivesAll, IsWhole}
 use Rattle.m88_listing.specs.Entries.{numbers_of}
 use Rattle.m88_listing.specs.Listing.{entry_lines, listing_lines}
-use Rattle.m88_listing.specs.Refused.{IsRefusedAt, bare_text, line_at, mark_line, parse_refusal, refused_text, unit_refusal, unlinked, unread}
-use Rattle.m88_listing.specs.Inside.Replies.{SaysRefusal, Replies}
+use Rattle.m88_listing.specs.Refused.{bare_text, line_at, mark_line, refused_text}
+use Rattle.m88_listing.specs.Inside.Replies.{Replies}
 use Rattle.m88_listing.specs.Rows.{numbered_lines, rows_of_unit, source_lines}
 use Rattle.m88_listing.specs.Inside.Slots.{slots_of, walked}
 use Rattle.m88_listing.specs.declared.entries.Entry.{Entry}
@@ -38,7 +34,6 @@ use Rattle.m88_listing.specs.declared.slots.Slot.{Slot}
 use Rattle.m88_listing.proofs.Climbing.{unit_climbs, walked_lines}
 use Rattle.m88_listing.proofs.Fitting.{unit_kept}
 use Rattle.m88_listing.proofs.Texts.{text_append}
-use Rattle.m88_listing.proofs.Verdict.{not_accepted, one_refusal, refused_answer}
 
 -- the objects of a unit that is accepted have no more bytes than an image may have
 pub size_fits : (u : Source) → IsAcceptedUnit u → total_size (objects_of u) ≤ most_bytes
@@ -65,29 +60,6 @@ listing_whole source t1 t2 t3 u image slots labels numbers is accepted own kept 
     e3 ∙ ap (λ ns. t2 ++ text_of_lines (entry_lines (codes "numbers") ns)) named
     ∙ ap (λ t. t ++ text_of_lines c) (e2 ∙ ap (λ t. t ++ text_of_lines b) (e1 ∙ ap text_of_lines lines) ∙ sym (text_append a b))
     ∙ sym (text_append (a ++ b) c)
-
--- the reply that refuses a source
-pub told_parse : (source : List ℕ) (fault : ParseFault) (result : Result Reply NoMemory) → IfOk result (λ _. fault ≡ out_of_memory → ⊥)
-    → (fault ≡ out_of_memory) ⊎ IsFirstFault source fault → IfOk result (λ _. IsRefusedAt source (parse_refusal fault))
-told_parse source fault (Ok r) told (inl memory) = absurd (told memory)
-told_parse source fault (Ok r) told (inr first) = unread fault first refl
-told_parse source fault (Err e) told first = tt
-
-pub told_unit : (source : List ℕ) (u : Source) (fault : UnitFault) (result : Result Reply NoMemory) → IsUnit source u
-    → IfOk result (λ _. IsOutOfMemory fault → ⊥) → IsUnitFault u fault → IfOk result (λ _. IsRefusedAt source (unit_refusal fault))
-told_unit source u fault (Ok r) is told (inl memory) = absurd (told memory)
-told_unit source u fault (Ok r) is told (inr first) = unlinked u fault is first refl
-told_unit source u fault (Err e) is told first = tt
-
-refused_reply : (source : List ℕ) (r : Refusal) (accepted : Bool) (text : List ℕ) → accepted ≡ false → IsRefusedAt source r → text ≡ refused_text source r
-    → MatchBool accepted (IsAnswerToAccepted source text) (IsAnswerToRefused source text)
-refused_reply source r true text e refused is = cc
-refused_reply source r false text e refused is = refused_answer source text r refused is
-
-pub reply_refused : (source : List ℕ) (r : Refusal) (result : Result Reply NoMemory) → IfOk result (λ _. IsRefusedAt source r)
-    → IfOk result (SaysRefusal source r) → IfOk result (Replies source)
-reply_refused source r (Ok x) refused is = refused_reply source r x.accepted x.text.items is.refused refused is.text
-reply_refused source r (Err e) refused is = tt
 
 -- what holds of a call that failed
 pub of_err : {T E P : Type 0} (r : Result T E) → is_err r ≡ true → OnErr r P → P
@@ -144,15 +116,15 @@ by_accepted true source text h = inl h
 by_accepted false source text h = inr h
 
 -- the reply to a source that is refused is the text of that refusal
-pub text_of_reply : (source : List ℕ) (r : Refusal) (reply : Reply) → IsRefusedAt source r → Replies source reply → reply.text.items ≡ refused_text source r
+pub text_of_reply : (source : List ℕ) (r : Refusal) (reply : Reply) → IsRefusedProgram 0 source r → Replies source reply → reply.text.items ≡ refused_text source r
 text_of_reply source r reply refused h = by (by_accepted reply.accepted source reply.text.items h)
   where
     by : IsAnswer source reply.text.items → reply.text.items ≡ refused_text source r
-    by (inl k) = absurd (not_accepted source r refused (record { unit = k.listing.unit; is_unit = k.listing.is_unit; is_accepted = k.listing.is_accepted }))
-    by (inr k) = k.is_text ∙ ap (refused_text source) (one_refusal source k.refusal r k.refused refused)
+    by (inl k) = absurd (not_linked 0 source r k.listing.accepted refused)
+    by (inr k) = k.is_text ∙ ap (refused_text source) (same_program_refusal 0 source k.refusal r k.refused refused)
 
 -- a source that is refused isn't answered by a reply that accepts it
-pub not_taken : (source : List ℕ) (r : Refusal) (reply : Reply) → reply.accepted ≡ true → IsRefusedAt source r → Replies source reply → ⊥
+pub not_taken : (source : List ℕ) (r : Refusal) (reply : Reply) → reply.accepted ≡ true → IsRefusedProgram 0 source r → Replies source reply → ⊥
 not_taken source r reply e refused h =
     let k = subst (λ t. MatchBool t (IsAnswerToAccepted source reply.text.items) (IsAnswerToRefused source reply.text.items)) e h in
-    not_accepted source r refused (record { unit = k.listing.unit; is_unit = k.listing.is_unit; is_accepted = k.listing.is_accepted })
+    not_linked 0 source r k.listing.accepted refused

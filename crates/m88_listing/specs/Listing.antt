@@ -1,9 +1,8 @@
 -- The listing of a source that is accepted: its lines with what they put where, then its labels, then its numbers.
 use Rattle.std.specs.Prelude.{◌≡◌, ℕ, List, [], ◌∷◌, ◌++◌, codes, map}
 use Rattle.m88_base.specs.Lines.{text_of_lines}
-use Rattle.m88_parse.specs.Language.Units.{IsUnit}
 use Rattle.m88_parse.specs.declared.unit.Unit.{Unit as Source}
-use Rattle.m88_asm.specs.Accepted.{IsAcceptedUnit}
+use Rattle.m88_asm.specs.Sources.{IsProgramSource}
 use Rattle.m88_listing.specs.declared.entries.Entry.{Entry}
 use Rattle.m88_listing.specs.Entries.{AreInOrder, entry_line, labels_of, numbers_of}
 use Rattle.m88_listing.specs.Rows.{rows_of_unit, source_lines}
@@ -19,17 +18,9 @@ listing_lines source u labels =
     ++ entry_lines (codes "labels") labels
     ++ entry_lines (codes "numbers") (numbers_of u)
 
--- the source is accepted for linking: it has a unit, and that is accepted
-pub record IsProgramSource (source : List ℕ) : Type 0 where
-  pub unit : Source
-  pub is_unit : IsUnit source unit
-  pub is_accepted : IsAcceptedUnit unit
-
 -- the text is the listing of a source that is accepted
 pub record IsListing (source text : List ℕ) : Type 0 where
-  pub unit : Source
-  pub is_unit : IsUnit source unit
-  pub is_accepted : IsAcceptedUnit unit
+  pub accepted : IsProgramSource source
   pub labels : List Entry
-  pub in_order : AreInOrder (labels_of unit) labels
-  pub is_text : text ≡ text_of_lines (listing_lines source unit labels)
+  pub in_order : AreInOrder (labels_of accepted.unit) labels
+  pub is_text : text ≡ text_of_lines (listing_lines source accepted.unit labels)

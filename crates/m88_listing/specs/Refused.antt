@@ -1,36 +1,11 @@
 -- The listing of a source that is refused: its lines behind their numbers, and below the line that is at fault a mark
 -- and the line that refuses the source.
-use Rattle.std.specs.Prelude.{◌≡◌, ℕ, ◌-◌, ◌==◌, if◌then◌else◌, List, [], ◌++◌, codes, drop, map, slice_index_or, take}
+use Rattle.std.specs.Prelude.{ℕ, ◌-◌, ◌==◌, if◌then◌else◌, List, [], ◌++◌, codes, drop, map, slice_index_or, take}
 use Rattle.m88_base.specs.Lines.{line_end, lines_of, text_of_lines}
 use Rattle.m88_base.specs.Refusal.{Refusal, refusal_line}
-use Rattle.m88_parse.specs.Fault.{reason}
 use Rattle.m88_parse.specs.Language.Bytes.{tab}
-use Rattle.m88_parse.specs.Language.FirstFaults.{IsFirstFault}
-use Rattle.m88_parse.specs.Language.Units.{IsUnit}
-use Rattle.m88_parse.specs.declared.fault.ParseFault.{ParseFault}
-use Rattle.m88_parse.specs.declared.unit.Unit.{Unit as Source}
-use Rattle.m88_link.specs.Reasons.{link_reason}
-use Rattle.m88_asm.specs.Accepted.{IsFirstUnitFault}
-use Rattle.m88_asm.specs.Reasons.{asm_reason}
-use Rattle.m88_asm.specs.declared.fault.UnitFault.{UnitFault}
-use Rattle.m88_asm.specs.declared.fault.UnitFault.TheVariants.{Asm, Link}
 use Rattle.m88_listing.specs.Columns.{bare_line, before_source, blank, blanks}
 use Rattle.m88_listing.specs.Rows.{numbered_lines}
-
--- the refusal for a fault of a source's lines
-abbrev pub parse_refusal : ParseFault → Refusal
-parse_refusal fault = record { line = fault.line; column = fault.col; reason = reason fault.kind }
-
--- the refusal for a fault of a unit's statements, or of its layout
-abbrev pub unit_refusal : UnitFault → Refusal
-unit_refusal (Asm fault) = record { line = fault.line; column = fault.col; reason = asm_reason fault.kind }
-unit_refusal (Link fault) = record { line = fault.line; column = fault.col; reason = link_reason fault.kind }
-
--- a source is refused at the first fault of its lines, or where it has a unit at the first fault of that
-pub data IsRefusedAt (source : List ℕ) (r : Refusal) : Type 0 where
-  unread : (fault : ParseFault) → IsFirstFault source fault → r ≡ parse_refusal fault → IsRefusedAt source r
-  unlinked : (unit : Source) (fault : UnitFault) → IsUnit source unit → IsFirstUnitFault unit fault
-      → r ≡ unit_refusal fault → IsRefusedAt source r
 
 -- what stands below a byte before the mark: a tab below a tab, and a blank below any other byte
 abbrev pub below : ℕ → ℕ

@@ -1,13 +1,14 @@
 //! The text for a source: its listing, or the text that refuses it.
 ghost use Rattle.std.specs.Prelude.{◌≢◌, ◌≤◌, IfOk, length};
-ghost use Rattle.m88_parse.specs.Fault.{out_of_memory};
+ghost use Rattle.m88_parse.specs.Fault.{out_of_memory, reason};
 ghost use Rattle.m88_link.specs.Faults.{memory_fault};
+ghost use Rattle.m88_link.specs.Reasons.{link_reason};
 ghost use Rattle.m88_asm.specs.Fault.{memory_ran_out};
-ghost use Rattle.m88_asm.specs.declared.fault.UnitFault.TheVariants as unit_kind;
+ghost use Rattle.m88_asm.specs.Reasons.{asm_reason};
+ghost use Rattle.m88_asm.specs.Sources.{IsRefusedProgram};
 ghost use Rattle.m88_listing.specs.Calls.{most_source};
 ghost use Rattle.m88_listing.specs.Listing.{IsListing};
-ghost use Rattle.m88_listing.specs.Refused.{parse_refusal, unit_refusal};
-ghost use Rattle.m88_listing.specs.Inside.Replies.{IsBuilt, SaysRefusal, Replies};
+ghost use Rattle.m88_listing.specs.Inside.Replies.{IsBuilt, Replies};
 
 use crate::entries::{labels, numbers, push_entries};
 use crate::layout::slots;
@@ -36,8 +37,9 @@ fn refuse(
     reason: &[u8],
 ) -> Result<Reply, NoMemory>
     requires { length source.now ≤ most_source }
-    ensures { IfOk result (SaysRefusal source.now
-        (record { line = line; column = column; reason = reason.now })) }
+    ensures { IsRefusedProgram 0 source.now
+        (record { line = line; column = column; reason = reason.now })
+        → IfOk result (Replies source.now) }
 {
     let mut text = Vec::new(alloc);
     push_refusal(&mut text, source, line, column, reason)?;
@@ -50,7 +52,9 @@ fn refuse(
 /// The reply for a fault of the source's lines, unless the fault is that memory ran out.
 fn unread(alloc: Global, source: &[u8], fault: ParseFault) -> Result<Reply, NoMemory>
     requires { length source.now ≤ most_source }
-    ensures refused { IfOk result (SaysRefusal source.now (parse_refusal fault)) }
+    ensures refused { IsRefusedProgram 0 source.now
+        (record { line = fault.line; column = fault.col; reason = reason fault.kind })
+        → IfOk result (Replies source.now) }
     ensures told { IfOk result (λ _. fault ≢ out_of_memory) }
 {
     if fault.kind == ParseKind::Memory {
@@ -68,7 +72,9 @@ fn unread(alloc: Global, source: &[u8], fault: ParseFault) -> Result<Reply, NoMe
 /// The reply for a fault of the unit's statements, unless the fault is that memory ran out.
 fn unassembled(alloc: Global, source: &[u8], fault: AsmFault) -> Result<Reply, NoMemory>
     requires { length source.now ≤ most_source }
-    ensures refused { IfOk result (SaysRefusal source.now (unit_refusal (unit_kind.Asm fault))) }
+    ensures refused { IsRefusedProgram 0 source.now
+        (record { line = fault.line; column = fault.col; reason = asm_reason fault.kind })
+        → IfOk result (Replies source.now) }
     ensures told { IfOk result (λ _. fault ≢ memory_ran_out) }
 {
     if fault.kind == AsmKind::Memory {
@@ -81,7 +87,9 @@ fn unassembled(alloc: Global, source: &[u8], fault: AsmFault) -> Result<Reply, N
 /// The reply for a fault of the unit's layout, unless the fault is that memory ran out.
 fn unlinked(alloc: Global, source: &[u8], fault: LinkFault) -> Result<Reply, NoMemory>
     requires { length source.now ≤ most_source }
-    ensures refused { IfOk result (SaysRefusal source.now (unit_refusal (unit_kind.Link fault))) }
+    ensures refused { IsRefusedProgram 0 source.now
+        (record { line = fault.line; column = fault.col; reason = link_reason fault.kind })
+        → IfOk result (Replies source.now) }
     ensures told { IfOk result (λ _. fault ≢ memory_fault) }
 {
     if fault.kind == LinkKind::Memory {

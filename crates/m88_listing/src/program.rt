@@ -5,11 +5,11 @@ ghost use Rattle.m88_base.specs.Calls.{CallsWithin};
 ghost use Rattle.m88_base.specs.Causes.{Rose};
 ghost use Rattle.m88_base.specs.Outside.{AppendsPart, TakesAtMost, TakesExactly};
 ghost use Rattle.m88_base.specs.Refusal.{Refusal};
+ghost use Rattle.m88_asm.specs.Sources.{IsProgramSource, IsRefusedProgram};
 ghost use Rattle.m88_listing.specs.Answer.{IsAnswer, IsAnswerToAccepted, IsAnswerToRefused};
 ghost use Rattle.m88_listing.specs.Calls.{HasSource, IsListed, IsWhole, most_source};
 ghost use Rattle.m88_listing.specs.Laws.{EachLineStandsOnce, EachShowsItsImage};
-ghost use Rattle.m88_listing.specs.Listing.{IsProgramSource};
-ghost use Rattle.m88_listing.specs.Refused.{IsRefusedAt, refused_text};
+ghost use Rattle.m88_listing.specs.Refused.{refused_text};
 ghost use Rattle.m88_listing.specs.Inside.Replies.{ComesOfReading};
 ghost use Rattle.m88_listing.specs.Status.{Answers, IsAnswered, WritesNothing};
 
@@ -58,7 +58,7 @@ pub fn m88list<S: Source, K: Sink>(
     ensures refused { result ≡ ListStatus.Refused
         → IsListed (S.left source.old) (S.left source.new) IsAnswerToRefused
         (Appends (K.held sink.old) (K.held sink.new)) }
-    ensures refusal { (bytes : List ℕ) (refusal : Refusal) → IsRefusedAt bytes refusal
+    ensures refusal { (bytes : List ℕ) (refusal : Refusal) → IsRefusedProgram 0 bytes refusal
         → S.left source.old ≡ Some bytes → S.left source.new ≡ Some []
         → IsWhole (K.held sink.old) (K.held sink.new) (refused_text bytes refusal)
         → result ≡ ListStatus.Refused }

@@ -1,10 +1,9 @@
 -- What the reply to a source says, and what comes of reading one.
-use Rattle.std.specs.Prelude.{ℕ, List, MatchBool, Option, Result, Err, false, ◌≡◌, ◌≢◌, ◌+◌, IfErr, IfOk, OnOk}
+use Rattle.std.specs.Prelude.{ℕ, List, MatchBool, Option, Result, Err, ◌≡◌, ◌≢◌, ◌+◌, IfErr, IfOk, OnOk}
 use Rattle.m88_base.specs.Calls.{CallsWithin}
 use Rattle.m88_base.specs.Causes.{Rose}
 use Rattle.m88_base.specs.Image.{ProgramImage}
 use Rattle.m88_base.specs.Outside.{TakesAtMost, TakesExactly}
-use Rattle.m88_base.specs.Refusal.{Refusal}
 use Rattle.m88_parse.specs.Language.Units.{IsUnit}
 use Rattle.m88_parse.specs.WellFormed.{IsWellFormed}
 use Rattle.m88_parse.specs.declared.unit.Unit.{Unit as Source}
@@ -14,7 +13,6 @@ use Rattle.m88_asm.specs.Images.{IsUnitImage}
 use Rattle.m88_asm.specs.Objects.{objects_of}
 use Rattle.m88_listing.specs.Answer.{IsAnswerToAccepted, IsAnswerToRefused}
 use Rattle.m88_listing.specs.Calls.{GivesAll, most_source}
-use Rattle.m88_listing.specs.Refused.{refused_text}
 use Rattle.m88_listing.specs.Status.{IsOfReading}
 use Rattle.m88_listing.specs.declared.listing.Reply.{Reply}
 use Rattle.m88_listing.specs.declared.status.ListStatus.{ListStatus}
@@ -24,11 +22,6 @@ use Rattle.m88_listing.specs.declared.status.ListStatus.TheVariants.{SourceFault
 abbrev pub Replies : List ℕ → Reply → Type 0
 Replies source r =
     MatchBool r.accepted (IsAnswerToAccepted source r.text.items) (IsAnswerToRefused source r.text.items)
-
--- the reply refuses a source so
-pub record SaysRefusal (source : List ℕ) (refusal : Refusal) (r : Reply) : Type 0 where
-  pub text : r.text.items ≡ refused_text source refusal
-  pub refused : r.accepted ≡ false
 
 -- a source has a unit that is accepted, and these are its objects and its image
 pub record IsBuilt (source : List ℕ) (unit : Source) (objects : List Object) (image : ProgramImage) : Type 0 where

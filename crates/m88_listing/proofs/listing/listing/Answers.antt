@@ -63,9 +63,7 @@ returns c =
     (subst (λ (bs : List (Placement Module)). AreInOrder (flat_map (entries_in (λ s. is_some s.section)) bs) c.in_ok-labels.labels.items)
     (c.as_slice-3.ensures.value ∙ stand) c.in_ok-labels.ensures) in
     record {
-      unit = u;
-      is_unit = c.requires.accepted.is_unit;
-      is_accepted = c.requires.accepted.accepted;
+      accepted = record { unit = u; is_unit = c.requires.accepted.is_unit; is_accepted = c.requires.accepted.accepted };
       labels = c.as_slice-6.result.now;
       in_order = ordered;
       is_text =
