@@ -29,8 +29,6 @@ mod slots;
 // who watches it
 mod glance;
 mod mem_watch;
-#[cfg(test)]
-mod tests;
 mod watch;
 
 pub use board::Board;

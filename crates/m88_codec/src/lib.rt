@@ -14,16 +14,6 @@ mod decoder;
 // the word of four bytes
 mod bytes;
 
-// tests
-#[cfg(test)]
-mod call_tests;
-#[cfg(test)]
-mod corner_tests;
-#[cfg(test)]
-mod effect_tests;
-#[cfg(test)]
-mod tests;
-
 pub use bytes::word_at;
 pub use decoder::{BadWord, decode};
 pub use encoder::encode;

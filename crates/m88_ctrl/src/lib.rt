@@ -5,8 +5,6 @@
 mod control;
 pub mod cr;
 mod frame;
-#[cfg(test)]
-mod tests;
 
 pub use control::Control;
 pub use frame::{Frame, Restart};

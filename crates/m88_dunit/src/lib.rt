@@ -4,8 +4,6 @@
 mod data_unit;
 mod full;
 mod stage;
-#[cfg(test)]
-mod tests;
 mod words;
 
 pub use data_unit::{DataUnit, MOST_PENDING};

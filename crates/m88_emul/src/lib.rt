@@ -14,10 +14,6 @@ mod task;
 // a whole run
 mod emulation;
 mod running;
-#[cfg(test)]
-mod test_rows;
-#[cfg(test)]
-mod tests;
 
 pub use emulation::{EmulOutcome, Emulation};
 pub use emulator::{Emulated, emulate};

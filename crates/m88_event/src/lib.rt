@@ -14,8 +14,6 @@ mod record;
 
 // what it comes to
 mod outcome;
-#[cfg(test)]
-mod tests;
 
 pub use happened::{End, Happened, Why};
 pub use letter::Letter;

@@ -3,8 +3,6 @@
 #![tactic(auto)]
 
 mod instr_unit;
-#[cfg(test)]
-mod tests;
 
 pub use instr_unit::InstrUnit;
 pub use m88_base::Slot;

@@ -9,8 +9,6 @@ mod marks;
 mod memory;
 mod places;
 mod reads;
-#[cfg(test)]
-mod tests;
 
 pub use absent_page::AbsentPage;
 pub use lines::Line;

@@ -2,8 +2,6 @@
 #![tactic(auto)]
 
 mod served;
-#[cfg(test)]
-mod tests;
 mod traps;
 
 pub use m88_isa::Service;

@@ -16,8 +16,6 @@ mod frames;
 mod changed;
 mod paged;
 mod running;
-#[cfg(test)]
-mod tests;
 
 pub use mem_store::MemStore;
 pub use paged::{PageEnd, Paged};

@@ -3,8 +3,6 @@
 
 mod busy;
 mod reg_file;
-#[cfg(test)]
-mod tests;
 
 pub use busy::Busy;
 pub use reg_file::RegFile;

@@ -15,10 +15,6 @@ mod turned;
 
 // what it comes to
 mod shared;
-#[cfg(test)]
-mod test_rows;
-#[cfg(test)]
-mod tests;
 
 pub use letter::ShareLetter;
 pub use schedule::ShareSchedule;

@@ -16,8 +16,6 @@ mod follower;
 mod running;
 mod sheet;
 mod telling;
-#[cfg(test)]
-mod tests;
 mod upcoming;
 mod waiting;
 
