@@ -250,7 +250,7 @@ fn records_of(rt: &impl Abort, alloc: Global, source: &[u8]) -> Result<Vec<u8>, 
 
 /// The text of a command that accepts its input; ends the test where it doesn't.
 fn written(rt: &impl Abort, alloc: Global, line: &str, input: &[u8]) -> Result<Vec<u8>, Fail> {
-    let (answer, held) = told(alloc, line, input, 64)?;
+    let (answer, held) = told(alloc, line, input)?;
     assert!(rt; answer == Status::Done, "{line} is answered {answer:?}");
     Ok(held)
 }

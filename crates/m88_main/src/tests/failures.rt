@@ -1,12 +1,28 @@
-//! Sources and sinks that fail, and inputs that are as long as one may be and longer.
+//! Sources and sinks that fail, inputs that are as long as one may be and longer, and the numbers of the answers.
 
-use crate::tests::pieces::{LETTER, LETTER_REPORT, NOTHING_ALLOWED};
 use crate::tests::run;
 use m88_base::{MemSink, MemSource};
 use m88_cli::Status;
 use std::alloc::Global;
 use std::process::Abort;
 use std::test::Fail;
+
+/// Puts the letter A out and ends.
+const LETTER: &[u8] = b"or r2,r0,65\nor r9,r0,0x20\ntb0 0,r0,496\nor r9,r0,0x63\ntb0 0,r0,496\n";
+
+const LETTER_REPORT: &[u8] = b"end exit at 00001010\nretired 4\n\
+    r0 00000000 00000000 00000041 00000000 00000000 00000000 00000000 00000000\n\
+    r8 00000000 00000063 00000000 00000000 00000000 00000000 00000000 00000000\n\
+    r16 00000000 00000000 00000000 00000000 00000000 00000000 00000000 00000000\n\
+    r24 00000000 00000000 00000000 00000000 00000000 00000000 00000000 00000000\ncarry 0\nout 41\nevents 10\n\
+    answers 0\nfaults 0\n";
+
+const NOTHING_ALLOWED: &[u8] = b"end limit\nretired 0\n\
+    r0 00000000 00000000 00000000 00000000 00000000 00000000 00000000 00000000\n\
+    r8 00000000 00000000 00000000 00000000 00000000 00000000 00000000 00000000\n\
+    r16 00000000 00000000 00000000 00000000 00000000 00000000 00000000 00000000\n\
+    r24 00000000 00000000 00000000 00000000 00000000 00000000 00000000 00000000\ncarry 0\nout -\nevents 0\n\
+    answers 0\nfaults 0\n";
 
 /// A call number that is never reached.
 const NEVER: u32 = 4_000_000_000;
@@ -126,3 +142,20 @@ fn each_write_that_fails_is_told(rt: HostRuntime) -> Result<(), Fail> {
     assert!(rt; answer == Status::SinkFault && held.as_slice() == b"end exit a".as_slice());
     Ok(())
 }
+
+#[test]
+fn each_status_has_its_number(rt: HostRuntime) {
+    for (status, number) in NUMBERS {
+        assert_eq!(rt; status.number(), *number);
+    }
+}
+
+const NUMBERS: &[(Status, u8)] = &[
+    (Status::Done, 0),
+    (Status::Usage, 1),
+    (Status::SourceFault, 2),
+    (Status::SinkFault, 3),
+    (Status::Refused, 4),
+    (Status::Memory, 5),
+    (Status::TooLong, 6),
+];

@@ -4,76 +4,10 @@ use crate::tests::examples::{
     DOUBLE, EXCHANGE, FOUR_LOADS, HALF_FAULT, HEX_DUMP, LATE_FAULT, LIST_WALK, LOOP, MEMORY_TEST,
     MERGE, PACKED, PRINT_A, REVERSE, SUM, TWO_MODES, TWO_MODULES,
 };
-use crate::tests::{Row, expect_done, written};
+use crate::tests::written;
 use std::alloc::Global;
 use std::process::Abort;
 use std::test::Fail;
-
-/// Paged runs, whole.
-const WHOLE: &[Row] = &[
-    (
-        "page 1 3 none -",
-        b"ld r2,r0,0x5000\nld r3,r0,0x6000\nld r4,r0,0x5000\n",
-        b"end limit\nretired 3\n\
-            r0 00000000 00000000 00000000 00000000 00000000 00000000 00000000 00000000\n\
-            r8 00000000 00000000 00000000 00000000 00000000 00000000 00000000 00000000\n\
-            r16 00000000 00000000 00000000 00000000 00000000 00000000 00000000 00000000\n\
-            r24 00000000 00000000 00000000 00000000 00000000 00000000 00000000 00000000\n\
-            carry 0\nout -\nevents 7\nanswers 3\nfaults 0\nframes 1\nins 3\nouts 0\n",
-    ),
-    (
-        "page 2 3 none -",
-        b"ld r2,r0,0x5000\nld r3,r0,0x6000\nld r4,r0,0x5000\n",
-        b"end limit\nretired 3\n\
-            r0 00000000 00000000 00000000 00000000 00000000 00000000 00000000 00000000\n\
-            r8 00000000 00000000 00000000 00000000 00000000 00000000 00000000 00000000\n\
-            r16 00000000 00000000 00000000 00000000 00000000 00000000 00000000 00000000\n\
-            r24 00000000 00000000 00000000 00000000 00000000 00000000 00000000 00000000\n\
-            carry 0\nout -\nevents 7\nanswers 3\nfaults 0\nframes 2\nins 2\nouts 0\n",
-    ),
-    (
-        "page 1 4 none -",
-        b"or r4,r0,7\nst r4,r0,0x5000\nst r4,r0,0x6000\nld r5,r0,0x5000\n",
-        b"end limit\nretired 4\n\
-            r0 00000000 00000000 00000000 00000000 00000007 00000007 00000000 00000000\n\
-            r8 00000000 00000000 00000000 00000000 00000000 00000000 00000000 00000000\n\
-            r16 00000000 00000000 00000000 00000000 00000000 00000000 00000000 00000000\n\
-            r24 00000000 00000000 00000000 00000000 00000000 00000000 00000000 00000000\n\
-            carry 0\nout -\nmem 00005000 00000007\nmem 00006000 00000007\nevents 9\nanswers 3\n\
-            faults 0\nframes 1\nins 3\nouts 2\n",
-    ),
-    (
-        "page 01 0000001 5 ir",
-        b"ld r2,r0,0x5000\n",
-        b"end limit\nretired 1\n\
-            r0 00000000 00000000 00000000 00000000 00000000 00000000 00000000 00000000\n\
-            r8 00000000 00000000 00000000 00000000 00000000 00000000 00000000 00000000\n\
-            r16 00000000 00000000 00000000 00000000 00000000 00000000 00000000 00000000\n\
-            r24 00000000 00000000 00000000 00000000 00000000 00000000 00000000 00000000\n\
-            carry 0\nout -\nevents 2\nanswers 0\nfaults 1\nfault 1 event 2\n\
-            epsr 000003F8 sxip 00001002 snip 00001007 sfip 0000100B ssbr 00000004\n\
-            t0 0000013D 00000000 00005000\nt1 00000000 00000000 00000000\n\
-            t2 00000000 00000000 00000000\nframes 1\nins 1\nouts 0\n",
-    ),
-    (
-        "page 64 0 all i",
-        b"",
-        b"end limit\nretired 0\n\
-            r0 00000000 00000000 00000000 00000000 00000000 00000000 00000000 00000000\n\
-            r8 00000000 00000000 00000000 00000000 00000000 00000000 00000000 00000000\n\
-            r16 00000000 00000000 00000000 00000000 00000000 00000000 00000000 00000000\n\
-            r24 00000000 00000000 00000000 00000000 00000000 00000000 00000000 00000000\n\
-            carry 0\nout -\nevents 0\nanswers 0\nfaults 0\nframes 64\nins 0\nouts 0\n",
-    ),
-];
-
-#[test]
-fn what_frames_do_is_told_behind_the_report(rt: HostRuntime) -> Result<(), Fail> {
-    for piece in [1, 64] {
-        expect_done(&rt, rt.alloc(), piece, WHOLE)?;
-    }
-    Ok(())
-}
 
 /// A number of frames, and how often pages come into them and go out.
 type Counts = (u32, u32, u32);
