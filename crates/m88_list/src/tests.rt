@@ -4,7 +4,6 @@
 use m88_base::{MemSink, MemSource};
 use m88_listing::{ListStatus, m88list};
 use std::alloc::Global;
-use std::process::Abort;
 use std::test::Fail;
 
 // inputs, outputs, texts and images
@@ -13,16 +12,13 @@ mod streams;
 mod texts;
 
 // the assembly language
-mod mnemonics;
 mod statements;
 mod tokens;
 
-// objects and images of sources
-mod linking;
+// objects
 mod object_texts;
 
-// S-records and the disassembler
-mod disassembly;
+// S-records
 mod loading;
 mod srecords;
 

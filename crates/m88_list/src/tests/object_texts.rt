@@ -1,8 +1,29 @@
-//! The calls that read and write object texts, over worked ones that the linker didn't make.
+//! The calls that read, write and link objects, over worked texts that the linker didn't make.
 
-use crate::tests::linking::linked;
-use m88_link::{object_text, read_objects};
+ghost use Rattle.std.specs.Prelude.{◌↔◌, All, IsTrue};
+ghost use Rattle.m88_link.specs.Sound.{IsSound};
+
+use m88_base::Image;
+use m88_link::{Object, is_sound, link, object_text, read_objects};
+use std::alloc::Global;
+use std::process::Abort;
 use std::test::Fail;
+
+/// Whether all objects are sound.
+fn are_sound(objects: &[Object]) -> bool
+    ensures { IsTrue result ↔ All IsSound objects.now }
+{
+    objects.iter().all(|object| is_sound(object))
+}
+
+/// The image of objects that are sound and not refused.
+fn linked(rt: &impl Abort, alloc: Global, objects: &[Object]) -> Image {
+    assert!(rt; are_sound(objects));
+    match link(alloc, objects) {
+        Ok(image) => image,
+        Err(_) => panic!(rt; "refused"),
+    }
+}
 
 /// A `br.n` to itself, a load of the lower half of the address of `x`, and `x` in data.
 const WORKED: &[u8] = b"object main\n\
@@ -49,5 +70,15 @@ reloc abs32 0 0000001C k 00000001 7 9\nend\n"
     assert!(rt; objects.len() == 2);
     let again = object_text(rt.alloc(), &objects).map_err(|_| "memory")?;
     assert!(rt; again.as_slice() == text);
+    Ok(())
+}
+
+#[test]
+fn a_list_without_objects_has_no_text_and_an_empty_image(rt: HostRuntime) -> Result<(), Fail> {
+    let objects = Vec::new(rt.alloc());
+    let text = object_text(rt.alloc(), &objects).map_err(|_| "memory")?;
+    assert!(rt; text.is_empty());
+    let image = linked(&rt, rt.alloc(), &objects);
+    assert!(rt; image.len() == 0 && image.start() == 0x1000);
     Ok(())
 }

@@ -1,5 +1,4 @@
-//! The units that sources are parsed into, beside instructions, from outside: values, places, labels, directives,
-//! modules.
+//! The units that sources are parsed into, from outside: values, places, labels, directives, modules.
 
 ghost use Rattle.std.specs.Prelude.{◌<◌, ◌^◌, length};
 
@@ -9,7 +8,7 @@ use std::alloc::Global;
 use std::test::Fail;
 
 /// The last statement of the last module.
-pub fn last(alloc: Global, source: &[u8]) -> Option<Statement>
+fn last(alloc: Global, source: &[u8]) -> Option<Statement>
     requires { length source.now < 2 ^ 31 }
 {
     let mut modules = parse(alloc, source).ok()?.modules.into_items();
