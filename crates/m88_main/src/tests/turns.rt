@@ -1,6 +1,8 @@
 //! Programs that share a board under many interrupts: their reports are those of own runs.
 
 use crate::tests::written;
+use std::alloc::{AllocError, Global};
+use std::process::Abort;
 use std::test::Fail;
 
 /// Programs: what stands before each in an input, before its report, and its source.
@@ -123,20 +125,46 @@ const TAKEN: &[(&str, &[&str], &str)] = &[
 #[test]
 fn each_report_is_that_of_an_own_run(rt: HostRuntime) -> Result<(), Fail> {
     for (schedule, owns, end) in TAKEN {
-        let mut input = String::new(rt.alloc());
-        let mut text = String::new(rt.alloc());
-        for ((line, heading, source), own) in PROGRAMS.iter().zip(*owns) {
-            input.push_str(line)?;
-            input.push_str(source)?;
-            text.push_str(heading)?;
-            let words = format!(in rt.alloc(); "run 20 5,6 {own}")?;
-            let report = written(&rt, rt.alloc(), words.as_str(), source.as_bytes())?;
-            text.push_str(report.as_str())?;
-        }
-        text.push_str(end)?;
+        let input = sources(rt.alloc(), owns.len())?;
+        let text = own_reports(&rt, rt.alloc(), owns, end)?;
         let words = format!(in rt.alloc(); "share 20 5,6 {schedule}")?;
         let held = written(&rt, rt.alloc(), words.as_str(), input.as_bytes())?;
         assert!(rt; held == text, "{words}: {held}");
     }
+    Ok(())
+}
+
+/// The sources of the first programs, one after another.
+fn sources(alloc: Global, count: usize) -> Result<String, AllocError> {
+    let mut input = String::new(alloc);
+    for (line, _, source) in PROGRAMS.iter().take(count) {
+        input.push_str(line)?;
+        input.push_str(source)?;
+    }
+    Ok(input)
+}
+
+/// The report of each program under letters of its own, below its heading, and an end.
+fn own_reports(rt: &impl Abort, alloc: Global, owns: &[&str], end: &str) -> Result<String, Fail> {
+    let mut text = String::new(alloc);
+    for ((_, heading, source), own) in PROGRAMS.iter().zip(owns) {
+        text.push_str(heading)?;
+        push_report(rt, alloc, &mut text, own, source)?;
+    }
+    text.push_str(end)?;
+    Ok(text)
+}
+
+/// Appends the report of a program under letters.
+fn push_report(
+    rt: &impl Abort,
+    alloc: Global,
+    text: &mut String,
+    letters: &str,
+    source: &str,
+) -> Result<(), Fail> {
+    let words = format!(in alloc; "run 20 5,6 {letters}")?;
+    let report = written(rt, alloc, words.as_str(), source.as_bytes())?;
+    text.push_str(report.as_str())?;
     Ok(())
 }
