@@ -1,0 +1,15 @@
+-- A context that was just made stands for the opening moment of the program of its image.
+use Rattle.std.proofs.Common.{ℕ, Bool}
+use Rattle.m88_event.specs.Timeline.{Moment}
+use Rattle.m88_isa.specs.Machine.{Program}
+use Rattle.m88_board.specs.Contexts.{Stands, StandsFor}
+use Rattle.m88_board.specs.declared.context.Context.{Context}
+use Rattle.m88_parts.proofs.tests.sharing.hand_over.Goals as goal
+
+stands_by : (p : Program) (named : ℕ → Bool) (m : Moment) (context : Context) → StandsFor p named m context → Stands context
+stands_by p named m context it = (p, named, m, it)
+
+pub interrupt-requires-clause-stands : goal.interrupt-requires-clause-stands
+interrupt-requires-clause-stands c =
+    let p = c.in_ok-context.ensures.program in
+    stands_by _ _ _ _ (c.in_ok-context.ensures.stands p.0 p.1 p.2)
