@@ -12,6 +12,7 @@ mod streams;
 mod texts;
 
 // the assembly language
+mod cutting;
 mod statements;
 mod tokens;
 
