@@ -21,7 +21,7 @@ use Rattle.m88_board.proofs.Ending.{none_wait, registers_seen, words_seen}
 use Rattle.m88_board.proofs.Waiting.{none_wait_for_none}
 use Rattle.m88_board.specs.Board.{BoardView, completed_of, local_of, next_of, pc_of}
 use Rattle.m88_board.specs.Kept.{HasReadyPage, IsKept, lacks_word}
-use Rattle.m88_board.specs.Parts.{IsAtWord, MayBegin, last_of, parts_of, seen_of, xip_of}
+use Rattle.m88_board.specs.Parts.{IsAtWord, MayBegin, begun_control, last_of, parts_of, seen_of, xip_of}
 use Rattle.m88_board.specs.declared.parts.Parts.{Parts}
 
 -- XIP comes back from the address of the instruction that was retired last
@@ -157,19 +157,16 @@ seen_back b parts kept ended are mode =
     })
 
 -- the status of a board that begins
-abbrev pub status_with : Bool → ControlRegisters
-status_with carry = record (at_start false) { psr = with_carry carry (at_start false).psr }
-
 status_right : (carry : Bool) →
-    (status_with carry).psr ≡ status_of (carry_of (status_with carry)) (mxm_of (status_with carry))
+    (begun_control carry).psr ≡ status_of (carry_of (begun_control carry)) (mxm_of (begun_control carry))
 status_right true = refl
 status_right false = refl
 
-carry_right : (carry : Bool) → carry_of (status_with carry) ≡ carry
+carry_right : (carry : Bool) → carry_of (begun_control carry) ≡ carry
 carry_right true = refl
 carry_right false = refl
 
-mxm_right : (carry : Bool) → mxm_of (status_with carry) ≡ false
+mxm_right : (carry : Bool) → mxm_of (begun_control carry) ≡ false
 mxm_right true = refl
 mxm_right false = refl
 
@@ -186,7 +183,7 @@ begun_from parts limit file = record {
   pending = [];
   file = file;
   memory = parts.memory;
-  control = status_with parts.carry;
+  control = begun_control parts.carry;
   out = parts.out;
   retired = parts.retired;
   done = parts.done;

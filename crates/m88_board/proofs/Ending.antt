@@ -12,10 +12,11 @@ use Rattle.m88_event.specs.declared.happened.End.{End}
 use Rattle.m88_event.specs.declared.happened.End.TheVariants.{Limit}
 use Rattle.m88_event.specs.declared.outcome.Outcome.{Outcome}
 use Rattle.m88_event.specs.declared.record.Record.{Record}
+use Rattle.m88_isa.proofs.Laws.{program_of_image}
 use Rattle.m88_isa.specs.Bus.{after_accesses, changed_words, in_words, waits_for}
 use Rattle.m88_isa.specs.Held.{is_pending}
 use Rattle.m88_isa.specs.History.{completed_state, transaction_count}
-use Rattle.m88_isa.specs.Machine.{IsProgram, Program, opening, state, turn_at}
+use Rattle.m88_isa.specs.Machine.{Program, opening, state, turn_at}
 use Rattle.m88_isa.specs.declared.planned.Access.{Access}
 use Rattle.m88_mem.specs.DataBus.{bus_of, image_bus}
 use Rattle.m88_scoreboard.specs.Registers.{none_waits, waiting_of}
@@ -60,13 +61,13 @@ registers_are p named m b at none =
     ∙ ap (λ (l : Local). l.completed.regs) at.seen
 
 -- and so is memory
-pub memory_is : (p : Program) (named : ℕ → Bool) (m : Moment) (b : BoardView) → IsProgram p → IsAt p named m b →
+pub memory_is : (p : Program) (named : ℕ → Bool) (m : Moment) (b : BoardView) → IsKept b → IsAt p named m b →
     is_drained p m ≡ true →
     bus_of b.memory ≡ in_words (state p m.retired).memory
 unfolding local_of local_at
-memory_is p named m b is at drained =
+memory_is p named m b kept at drained =
     ap (λ (l : Local). l.bus) at.seen
-    ∙ drained_bus p m.retired m.done is (eqb-true m.done (transaction_count p m.retired) drained)
+    ∙ drained_bus p m.retired m.done (program_of_image b.memory.image p kept.image at.image) (eqb-true m.done (transaction_count p m.retired) drained)
 
 -- what is seen of a board with nothing pending has its registers and its words
 pub registers_seen : (b : BoardView) → b.pending ≡ [] → b.file.numbers ≡ (completed_of b).regs
@@ -129,14 +130,13 @@ came_to_at p named m b o at over is =
 
 -- with nothing pending it shows the state of the history
 pub settled : (p : Program) (named : ℕ → Bool) (m : Moment) (b : BoardView) →
-    IsProgram p →
     IsKept b →
     IsAt p named m b →
     is_drained p m ≡ true →
     b.pending ≡ [] →
     IsSettled p m b
 unfolding local_of completed_of local_at completed_state
-settled p named m b is kept at drained none = record {
+settled p named m b kept at drained none = record {
   retired = ap (λ (l : Local). l.retired) at.seen;
   bubble = ap (λ (l : Local). l.bubble) at.seen;
   ended = ap (λ (l : Local). l.ended) at.seen;
@@ -144,7 +144,7 @@ settled p named m b is kept at drained none = record {
   registers = registers_are p named m b at none;
   carry = ap (λ (l : Local). l.completed.carry) at.seen;
   out = ap (λ (l : Local). l.completed.out) at.seen;
-  words = memory_is p named m b is at drained;
+  words = memory_is p named m b kept at drained;
 }
 
 -- and so at the moment before it was drained

@@ -5,8 +5,8 @@ pub use Rattle.m88_board.proofs.AtMoment.{done_at, events_at, records_at, retire
 -- it shows the registers, the data unit and the memory of that moment
 pub use Rattle.m88_board.proofs.AtMoment.{registers_seen}
 pub use Rattle.m88_board.proofs.Shown.{pending_seen, words_seen}
--- it has something pending where the moment does, and stands there still where memory refused it an event
-pub use Rattle.m88_board.proofs.Walking.{drained_by, still_at}
+-- it has something pending where the moment does
+pub use Rattle.m88_board.proofs.Walking.{drained_by}
 -- no register waits where nothing is pending
 pub use Rattle.m88_board.proofs.Ending.{none_wait}
 -- Each letter counts an event.

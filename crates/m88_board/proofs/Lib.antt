@@ -8,7 +8,6 @@ pub mod Waiting
 pub mod Carry
 pub mod Going
 pub mod Issued
-pub mod Unmoved
 pub mod Faulted
 pub mod Evicted
 pub mod Finished

@@ -1,6 +1,6 @@
 -- What bounds a route goes on bounding it.
-use Rattle.std.specs.Prelude.{true, false, not, List, [], ◌∷◌, ◌≡◌, ◌<◌, ◌≤◌, ◌+◌, ◌-◌, length}
-use Rattle.std.proofs.Common.{arith, refl, ap, subst, sym, ◌∙◌}
+use Rattle.std.specs.Prelude.{true, false, not, List, [], ◌∷◌, ◌≡◌, ◌<◌, ◌≤◌, ◌+◌, ◌-◌}
+use Rattle.std.proofs.Common.{arith, refl, ap, subst, ◌∙◌}
 use Rattle.m88_base.specs.Image.{IsImage}
 use Rattle.m88_event.specs.Local.{move}
 use Rattle.m88_event.specs.declared.happened.Happened.{Happened}
@@ -8,11 +8,11 @@ use Rattle.m88_event.specs.declared.letter.Letter.{Letter}
 use Rattle.m88_isa.specs.Held.{is_pending}
 use Rattle.m88_isa.specs.declared.planned.Access.{Access}
 use Rattle.m88_board.proofs.Choosing.{some_count}
-use Rattle.m88_board.proofs.Weighing.{answered_no_heavier, bounded_next, bounded_unmoved, lighter_next, no_heavier_same, no_heavier_then, unmoved_no_heavier}
+use Rattle.m88_board.proofs.Weighing.{answered_no_heavier, bounded_next, lighter_next, no_heavier_same, no_heavier_then}
 use Rattle.m88_board.specs.Board.{BoardView, local_of}
 use Rattle.m88_board.specs.Inside.Routes.{CanBeCounted, IsBoundedBy, has_to_rest, letters_by}
 use Rattle.m88_board.specs.Kept.{IsKept, most_events}
-use Rattle.m88_board.specs.Moves.{Happens, IsUnmoved}
+use Rattle.m88_board.specs.Moves.{Happens}
 use Rattle.m88_board.specs.Walks.{IsBounded}
 use Rattle.m88_board.specs.declared.route.Route.{Route}
 use Rattle.m88_board.specs.declared.route.Route.TheVariants.{Run, Answers}
@@ -70,21 +70,4 @@ bounded_behind Answers letter first old happened new bounded going begun is even
       lighter = no_heavier_then first old new bounded.lighter
           (answered_no_heavier old new (subst IsImage event.same.image event.kept.image) pending event.same counted
           (λ p of. (event.moved p of).moved ∙ ap (λ x. move p old.limit x (local_of old)) is));
-    }
-
--- no event: memory ran out
-pub bounded_still : (route : Route) (first old new : BoardView) → IsBoundedBy route first old → IsUnmoved old new →
-    IsBoundedBy route first new
-bounded_still (Run schedule taken until) first old new bounded still =
-    let here = taken + (old.events - first.events) in
-    subst (λ n. IsBounded schedule.now n new)
-    (ap (λ (b : BoardView). taken + (b.events - first.events)) (sym still.rest))
-    (bounded_unmoved schedule.now here old new bounded still)
-bounded_still Answers first old new bounded still =
-    let events = ap (λ (b : BoardView). b.events) still.rest in
-    let pending = ap (λ (b : BoardView). length b.pending) still.rest in
-    let before = bounded.bounded in
-    record {
-      bounded = omega (arith, events, pending, before);
-      lighter = no_heavier_then first old new bounded.lighter (unmoved_no_heavier old new still);
     }

@@ -81,11 +81,6 @@ status_at : (mxm : Bool) → (at_start mxm).psr ≡ status_of (carry_of (at_star
 status_at true = refl
 status_at false = refl
 
--- and its MXM
-pub mxm_at : (mxm : Bool) → mxm_of (at_start mxm) ≡ mxm
-mxm_at true = refl
-mxm_at false = refl
-
 -- what always holds
 pub kept : (mxm : Bool) (limit : ℕ) (named : Absent) (entry : ℕ) (e0 e1 : Bool) (file : Registers) (memory : MemoryView) → limit ≤ most_retired →
     IsImage memory.image →

@@ -1,10 +1,12 @@
 -- What stays in an event: the run.
-use Rattle.std.proofs.Common.{ap, ◌∙◌}
-use Rattle.m88_ctrl.specs.ControlRegisters.{mxm_of}
+use Rattle.std.proofs.Common.{refl, ◌∙◌}
 use Rattle.m88_board.specs.Board.{BoardView}
-use Rattle.m88_board.specs.Moves.{IsSameRun, IsUnmoved}
+use Rattle.m88_board.specs.Moves.{IsSameRun}
 
--- one run after the other, and where memory runs out
+-- one run, and one after the other
+pub same_run : (b : BoardView) → IsSameRun b b
+same_run b = record { limit = refl; mxm = refl; named = refl; image = refl; begun = refl }
+
 pub same_then : (a b c : BoardView) → IsSameRun a b → IsSameRun b c → IsSameRun a c
 same_then a b c first second = record {
   limit = second.limit ∙ first.limit;
@@ -12,13 +14,4 @@ same_then a b c first second = record {
   named = second.named ∙ first.named;
   image = second.image ∙ first.image;
   begun = second.begun ∙ first.begun;
-}
-
-pub unmoved_same : (old new : BoardView) → IsUnmoved old new → IsSameRun old new
-unmoved_same old new still = record {
-  limit = ap (λ (b : BoardView). b.limit) still.rest;
-  mxm = ap (λ (b : BoardView). mxm_of b.control) still.rest;
-  named = ap (λ (b : BoardView). b.named) still.rest;
-  image = still.image;
-  begun = ap (λ (b : BoardView). b.begun) still.rest;
 }

@@ -7,21 +7,18 @@ use Rattle.m88_event.proofs.Laws.{drained_seen}
 use Rattle.m88_event.specs.Choice.{Choice, evicts, faults, finishes, holds, idles, issues, passes, replies, serves}
 use Rattle.m88_event.specs.Letters.{letter_at}
 use Rattle.m88_event.specs.Local.{Local}
-use Rattle.m88_event.specs.Past.{HasPast}
 use Rattle.m88_event.specs.Run.{NotBefore, letters_from, moment_after, moment_along}
 use Rattle.m88_event.specs.Timeline.{Moment, after_choice, after_letter, choice_at, is_drained, is_over, opening_moment, record_at}
 use Rattle.m88_event.specs.declared.letter.Letter.{Letter}
 use Rattle.m88_event.specs.declared.record.Record.{Record}
 use Rattle.m88_isa.proofs.Laws.{by_test}
 use Rattle.m88_isa.specs.Held.{is_pending}
-use Rattle.m88_isa.specs.ImageProgram.{IsProgramOf}
 use Rattle.m88_isa.specs.Machine.{Program}
-use Rattle.m88_board.proofs.Unmoved.{unmoved_seen}
 use Rattle.m88_board.proofs.Seeing.{saw_none, saw_then}
 use Rattle.m88_board.specs.Board.{BoardView, local_of}
 use Rattle.m88_board.specs.Glances.{Saw, glance_at, glances_along}
 use Rattle.m88_board.specs.Inside.Routes.{stops_at_event, letters_by, moments_by, stops_at_moment}
-use Rattle.m88_board.specs.Moves.{IsAlong, IsAt, IsStep, IsUnmoved}
+use Rattle.m88_board.specs.Moves.{IsAlong, IsAt, IsStep}
 use Rattle.m88_board.specs.Walks.{moments_from, never, stops_after}
 use Rattle.m88_board.specs.declared.route.Route.{Route}
 use Rattle.m88_board.specs.declared.glance.Glance.{Glance}
@@ -145,16 +142,6 @@ on_err (Err e) p = p
 pub on_ok : {T E P Q R S : Type 0} (r : Result T E) → OnOk r P → OnOk r Q → OnOk r R → (P → Q → R → S) → OnOk r S
 on_ok (Ok x) p q r f = f p q r
 on_ok (Err e) p q r f = tt
-
--- a board that memory refused an event stands where it stood
-pub still_at : (p : Program) (named : ℕ → Bool) (m : Moment) (b c : BoardView) → IsUnmoved b c → IsAt p named m b →
-    IsAt p named m c
-still_at p named m b c unmoved at = record {
-  image = subst (λ image. IsProgramOf image p) (sym unmoved.image) at.image;
-  within = at.within;
-  past = subst (λ (d : BoardView). HasPast p d.limit m) (sym unmoved.rest) at.past;
-  seen = unmoved_seen b c unmoved ∙ at.seen;
-}
 
 -- whether something is pending is seen
 pub drained_by : (p : Program) (named : ℕ → Bool) (m : Moment) (b : BoardView) → IsAt p named m b →

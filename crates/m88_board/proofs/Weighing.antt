@@ -13,11 +13,9 @@ use Rattle.m88_isa.proofs.Laws.{program_of_image}
 use Rattle.m88_isa.specs.Held.{is_pending}
 use Rattle.m88_isa.specs.ImageProgram.{IsProgramOf}
 use Rattle.m88_isa.specs.Machine.{Program}
-use Rattle.m88_board.proofs.Unmoved.{unmoved_seen}
-use Rattle.m88_board.proofs.Still.{unmoved_same}
 use Rattle.m88_board.specs.Board.{BoardView, local_of}
 use Rattle.m88_board.specs.Kept.{IsKept}
-use Rattle.m88_board.specs.Moves.{IsSameRun, IsUnmoved}
+use Rattle.m88_board.specs.Moves.{IsSameRun}
 use Rattle.m88_board.specs.Walks.{IsBounded, IsNoHeavier}
 
 -- at first
@@ -72,20 +70,6 @@ bounded_next schedule taken old new bounded kept same counted lighter =
       few = bounded.few;
       made = omega (arith, made, counted);
       room = omega (arith, room, counted, lighter, limit);
-    }
-
--- no event: memory ran out
-pub unmoved_no_heavier : (old new : BoardView) → IsUnmoved old new → IsNoHeavier old new
-unmoved_no_heavier old new still =
-    let limit : new.limit ≡ old.limit = ap (λ (b : BoardView). b.limit) still.rest in
-    let retired : new.retired ≡ old.retired = ap (λ (b : BoardView). b.retired) still.rest in
-    let events : new.events ≡ old.events = ap (λ (b : BoardView). b.events) still.rest in
-    record {
-      counted = omega (arith, events);
-      within = λ h. omega (arith, limit, retired, h);
-      weights = λ schedule taken.
-          let same = ap₂ (λ n (l : Local). weight schedule n taken l) limit (unmoved_seen old new still) in
-          omega (arith, events, same);
     }
 
 -- an answer beside the run's letters
@@ -146,10 +130,3 @@ bounded_lighter schedule taken old new bounded same lighter =
       made = omega (arith, made, counted);
       room = omega (arith, room, weights, limit);
     }
-
-pub bounded_unmoved : (schedule : List Letter) (taken : ℕ) (old new : BoardView) → IsBounded schedule taken old → IsUnmoved old new →
-    IsBounded schedule taken new
-bounded_unmoved schedule taken old new bounded still =
-    bounded_lighter schedule taken old new bounded
-    (unmoved_same old new still)
-    (unmoved_no_heavier old new still)

@@ -1,13 +1,13 @@
 -- What the calls of a walk come to.
-use Rattle.std.specs.Prelude.{ℕ, Bool, List, Option, Result, IfOk, OnErr, OnOk, ◌≡◌, ◌<◌, ◌+◌}
+use Rattle.std.specs.Prelude.{ℕ, Bool, List, Option, Result, OnErr, OnOk, ◌≡◌, ◌<◌, ◌+◌}
 use Rattle.m88_base.specs.declared.failing.NoMemory.{NoMemory}
 use Rattle.m88_board.specs.Board.{local_of}
-use Rattle.m88_board.specs.Moves.{IsAt, IsSameRun, IsStep, IsUnmoved}
+use Rattle.m88_board.specs.Moves.{IsAt, IsSameRun, IsStep, MakesEvent}
 use Rattle.m88_board.specs.declared.glance.Glance.{Glance}
 use Rattle.m88_board.specs.declared.walk.Walk.{Walk}
 use Rattle.m88_event.specs.Bound.{weight}
 use Rattle.m88_event.specs.Letters.{letter_at}
-use Rattle.m88_event.specs.Timeline.{Moment, said_at}
+use Rattle.m88_event.specs.Timeline.{Moment}
 use Rattle.m88_event.specs.declared.happened.Happened.{Happened}
 use Rattle.m88_isa.specs.Machine.{Program}
 
@@ -27,13 +27,10 @@ pub record TakesLetter {T : Type 0} (old new : Walk) (result : Result T NoMemory
   pub untaken : OnErr result (new.taken ≡ old.taken)
   pub stays : StaysOnRun old new
 
--- the event of the next letter is made and shown, and says what it says at a moment; or memory ran out, and the board is
--- as before
+-- the board makes the event of the next letter, and is shown as it stands at the moment behind it; or memory ran out
 pub record MakesNext (old new : Walk) (before after : Option (List Glance)) (result : Result Happened NoMemory) :
     Type 0 where
+  pub event : MakesEvent (letter_at old.schedule.now old.taken) old.board.now result new.board.now
   pub ok : OnOk result ((p : Program) (named : ℕ → Bool) (m : Moment) → IsAt p named m old.board.now
       → IsStep p named (letter_at old.schedule.now old.taken) m before after old.board.now new.board.now)
-  pub said : IfOk result (λ happened. (p : Program) (named : ℕ → Bool) (m : Moment) → IsAt p named m old.board.now
-      → happened ≡ said_at p named old.board.now.limit (letter_at old.schedule.now old.taken) m)
   pub takes : TakesLetter old new result
-  pub err : OnErr result (IsUnmoved old.board.now new.board.now)

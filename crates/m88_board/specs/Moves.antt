@@ -1,6 +1,7 @@
 -- What an event makes of a board.
-use Rattle.std.specs.Prelude.{ℕ, Bool, not, List, [], ◌∷◌, Option, Some, ◌≡◌, ◌≤◌, ◌+◌, ◌-◌, length, if◌then◌else◌}
+use Rattle.std.specs.Prelude.{ℕ, Bool, not, List, [], ◌∷◌, Option, Some, Result, Ok, IfOk, OnErr, ◌≡◌, ◌≤◌, ◌+◌, ◌-◌, length, if◌then◌else◌}
 use Rattle.m88_base.specs.Pages.{every_page}
+use Rattle.m88_base.specs.declared.failing.NoMemory.{NoMemory}
 use Rattle.m88_ctrl.specs.ControlRegisters.{mxm_of}
 use Rattle.m88_event.specs.Choice.{Choice, ServesOrEnds, finishes, holds, said}
 use Rattle.m88_event.specs.Local.{local_at, move, move_by, said_by}
@@ -11,7 +12,7 @@ use Rattle.m88_event.specs.declared.happened.End.{End}
 use Rattle.m88_event.specs.declared.happened.Happened.{Happened}
 use Rattle.m88_event.specs.declared.happened.Happened.TheVariants as happened
 use Rattle.m88_event.specs.declared.letter.Letter.{Letter}
-use Rattle.m88_event.specs.declared.letter.Letter.TheVariants.{Answer}
+use Rattle.m88_event.specs.declared.letter.Letter.TheVariants.{Answer, Evict}
 use Rattle.m88_event.specs.declared.record.Record.{Record}
 use Rattle.m88_isa.specs.Held.{is_pending, sync}
 use Rattle.m88_iunit.specs.Pointers.{Pointers}
@@ -78,15 +79,6 @@ pub record IsAlong (p : Program) (named : ℕ → Bool) (moments : ℕ → Momen
   pub at : IsAt p named (moments events) b
   pub saw : Saw before after (glances_along p moments events)
 
--- memory ran out: all is as before, of memory what can be seen of it: its words, the absent pages and those that are
--- ready
-pub record IsUnmoved (old new : BoardView) : Type 0 where
-  pub rest : new ≡ record old { memory = new.memory }
-  pub image : new.memory.image ≡ old.memory.image
-  pub bus : bus_of new.memory ≡ bus_of old.memory
-  pub absent : absent_of new.memory ≡ absent_of old.memory
-  pub ready : ready_of new.memory ≡ ready_of old.memory
-
 -- every page is absent, and nothing else changed but the count of events: the words and the pages that are ready stay
 pub record IsEvicted (old new : BoardView) : Type 0 where
   pub rest : new ≡ record old { memory = new.memory; events = new.events }
@@ -130,3 +122,12 @@ pub record Happens (letter : Letter) (old : BoardView) (happened : Happened) (ne
   pub shorter : letter ≡ Answer → length new.pending ≤ length old.pending - 1
   pub leaves : Leaves happened old new
   pub kept : IsKept new
+
+-- the event of a letter by its answer: it was made, or memory ran out and the board is as before; and `e` takes no
+-- memory, says so, and makes every page absent
+pub record MakesEvent (letter : Letter) (old : BoardView) (result : Result Happened NoMemory) (new : BoardView) : Type 0
+  where
+    pub happens : IfOk result (λ happened. Happens letter old happened new)
+    pub evicts : letter ≡ Evict → result ≡ Ok happened.Evicted
+    pub evicted : letter ≡ Evict → IsEvicted old new
+    pub err : OnErr result (new ≡ old)

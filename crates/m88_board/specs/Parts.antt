@@ -1,8 +1,8 @@
 -- The parts of a board whose program has ended, and the board that begins from parts.
-use Rattle.std.specs.Prelude.{ℕ, false, [], Option, Some, None, IfSome, ◌≡◌, ◌≤◌, ◌+◌, ◌*◌, ◌%◌, ◌==◌, length, slice_index, if◌then◌else◌}
+use Rattle.std.specs.Prelude.{ℕ, Bool, false, [], Option, Some, None, IfSome, ◌≡◌, ◌≤◌, ◌+◌, ◌*◌, ◌%◌, ◌==◌, length, slice_index, if◌then◌else◌}
 use Rattle.m88_base.specs.Slot.{no_slot, slot_word}
 use Rattle.m88_base.specs.declared.slot.Slot.{Slot}
-use Rattle.m88_ctrl.specs.ControlRegisters.{carry_of}
+use Rattle.m88_ctrl.specs.ControlRegisters.{ControlRegisters, at_start, carry_of, with_carry}
 use Rattle.m88_event.specs.Local.{Local}
 use Rattle.m88_event.specs.Shadow.{retired_pointer}
 use Rattle.m88_mem.specs.DataBus.{absent_of, bus_of}
@@ -55,6 +55,10 @@ pub record MayBegin (parts : Parts) (limit : ℕ) : Type 0 where
   pub made : parts.done ≤ 2 * parts.retired
   pub told : parts.answers + length parts.records ≤ parts.done
   pub put_out : length parts.out ≤ parts.retired
+
+-- the control registers of the board that begins from parts: those at the start, with MXM clear and the carry
+abbrev pub begun_control : Bool → ControlRegisters
+begun_control carry = record (at_start false) { psr = with_carry carry (at_start false).psr }
 
 -- what is seen of the board that begins from parts: nothing is pending, no mark is set, and MXM is clear
 unfoldable pub seen_of : Parts → Local

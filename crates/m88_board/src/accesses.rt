@@ -26,7 +26,7 @@ use m88_scoreboard::RegFile;
 pub(crate) fn prepare_one(memory: &mut Memory, access: &Access) -> Result<(), NoMemory>
     ensures only { GainsReady memory.old memory.new }
     ensures ready { OnOk result (HasReadyPage (ready_of memory.new) access.now) }
-    ensures err { OnErr result (ready_of memory.new ≡ ready_of memory.old) }
+    ensures err { OnErr result (memory.new ≡ memory.old) }
 {
     if !access.write {
         return Ok(());
@@ -34,13 +34,13 @@ pub(crate) fn prepare_one(memory: &mut Memory, access: &Access) -> Result<(), No
     memory.prepare(access.addr)
 }
 
-/// Makes the page of the stores among some accesses ready, before any of them is issued. Where memory is refused, no
-/// page becomes so.
+/// Makes the page of the stores among some accesses ready, before any of them is issued. Where memory is refused, all
+/// is as before.
 pub(crate) fn prepare(memory: &mut Memory, accesses: &Accesses) -> Result<(), NoMemory>
     requires { StoreOnOnePage accesses.now }
     ensures only { GainsReady memory.old memory.new }
     ensures ready { OnOk result (AreReady (ready_of memory.new) (listed accesses.now)) }
-    ensures err { OnErr result (ready_of memory.new ≡ ready_of memory.old) }
+    ensures err { OnErr result (memory.new ≡ memory.old) }
 {
     if accesses.count == 0 {
         return Ok(());

@@ -5,7 +5,7 @@ ghost use Rattle.m88_base.specs.Image.{IsImage};
 ghost use Rattle.m88_base.specs.Pages.{page_number};
 ghost use Rattle.m88_base.specs.Reg.{number_of};
 ghost use Rattle.m88_base.specs.Slot.{slot_word};
-ghost use Rattle.m88_ctrl.specs.ControlRegisters.{mxm_of};
+ghost use Rattle.m88_ctrl.specs.ControlRegisters.{at_start};
 ghost use Rattle.m88_event.specs.Choice.{answer_choice, evicts, faults, finishes, serves, turn_choice};
 ghost use Rattle.m88_event.specs.Local.{record_by};
 ghost use Rattle.m88_event.specs.Timeline.{Moment, opening_moment, record_at};
@@ -22,7 +22,7 @@ ghost use Rattle.m88_isa.specs.ImageProgram.{IsProgramOf};
 ghost use Rattle.std.specs.Int.{bit_at};
 ghost use Rattle.m88_iunit.specs.Pointers.{resumed};
 ghost use Rattle.m88_board.specs.Kept.{IsKept, epsr_of, most_events, most_retired};
-ghost use Rattle.m88_board.specs.Moves.{IsAt, IsUnmoved, stopping};
+ghost use Rattle.m88_board.specs.Moves.{IsAt, stopping};
 ghost use Rattle.m88_board.specs.Shown.{IsRecordOf};
 ghost use Rattle.m88_board.specs.Inside.Events.{Brings, BringsOrStays, EvictsAll};
 ghost use Rattle.m88_board.specs.Inside.Turns.{CanMakeAccesses, ComesToEnd, IsDue, IsFetched, IsIssuedWith, IssueComesTo};
@@ -130,7 +130,7 @@ impl Board {
         ensures limit { IfOk result (λ b. b.limit ≡ limit) }
         ensures named { IfOk result (λ b. b.named ≡ absent.now) }
         ensures image { IfOk result (λ b. b.memory.image ≡ image.now) }
-        ensures mxm { IfOk result (λ b. mxm_of b.control ≡ mxm) }
+        ensures control { IfOk result (λ b. b.control ≡ at_start mxm) }
         ensures events { IfOk result (λ b. b.events ≡ 0) }
         ensures begun { IfOk result (λ b. b.begun ≡ false) }
         ensures is_image { IsImage image.now }
@@ -327,7 +327,7 @@ impl Board {
         requires issued { IsIssuedWith effect.now self.old }
         requires made { CanMakeAccesses effect.now.accesses self.old }
         ensures ok { OnOk result (Brings LetterValue.Issue self.old BriefValue.Issued self.new) }
-        ensures err { OnErr result (IsUnmoved self.old self.new) }
+        ensures err { OnErr result (self.new ≡ self.old) }
     {
         prepare(&mut self.memory, &effect.accesses)?;
         write(&mut self.regs, effect.reg);

@@ -9,9 +9,9 @@ use Rattle.m88_event.specs.declared.outcome.Outcome.{Outcome}
 use Rattle.m88_board.specs.Kept.{most_events}
 use Rattle.m88_board.specs.Moves.{IsAt}
 use Rattle.m88_tasks.proofs.Choosing.{each_over}
-use Rattle.m88_tasks.proofs.Running.{alive_view, refused_at, taken_at}
+use Rattle.m88_tasks.proofs.Running.{alive_view, taken_at}
 use Rattle.m88_tasks.specs.Shared.{Group, SharedMoment, after_share, all_over, outcomes_of, over_at}
-use Rattle.m88_tasks.specs.Tasks.{ArePlaces, ArePrograms, AreTasks, AreUnmoved, IsTaken, IsTasksAt, ProgramsView, TasksView, is_over_view}
+use Rattle.m88_tasks.specs.Tasks.{ArePlaces, ArePrograms, AreTasks, IsTaken, IsTasksAt, ProgramsView, TasksView, is_over_view}
 use Rattle.m88_tasks.specs.declared.letter.ShareLetter.{ShareLetter}
 use Rattle.m88_tasks.specs.declared.shared.Switch.{Switch}
 use Rattle.m88_tasks.specs.declared.turned.Turned.{Turned}
@@ -43,15 +43,10 @@ event_tasks t letter turned v switches takes are going room = record {
   counted = omega (arith, room);
 }
 
-pub refused_tasks : (t : TasksView) (v : ProgramsView) (switches : List Switch) → AreTasks t → AreUnmoved t.programs v → switches ≡ t.switches →
-    AreTasks (record { programs = v; events = t.events; switches = switches })
-refused_tasks t v switches are still same = record {
-  group = are.group;
-  moment = are.moment;
-  at = subst (λ (xs : List Switch). IsTasksAt are.group are.moment (record { programs = v; events = t.events; switches = xs })) (sym same)
-      (refused_at are.group are.moment t v are.at still);
-  counted = are.counted;
-}
+-- memory ran out, and the programs and the switches are as before
+pub refused_tasks : (t : TasksView) (v : ProgramsView) (switches : List Switch) → v ≡ t.programs → switches ≡ t.switches →
+    record { programs = v; events = t.events; switches = switches } ≡ t
+refused_tasks t v switches still same = λ i. record { programs = still i; events = t.events; switches = same i }
 
 -- all outcomes, where all are over
 pub all_outcomes : {X : Type 0} (items : X → List Outcome) (r : Result X NoMemory) (v : ProgramsView) (own : Outcome) →

@@ -11,10 +11,9 @@ use Rattle.m88_isa.specs.Machine.{Program}
 use Rattle.m88_event.specs.Timeline.{Moment, after_letter, is_over}
 use Rattle.m88_event.specs.declared.letter.Letter.{Letter}
 use Rattle.m88_mem.specs.Marks.{absent_in}
-use Rattle.m88_board.proofs.Laws.{still_at}
 use Rattle.m88_board.specs.Board.{BoardView}
 use Rattle.m88_board.specs.Contexts.{IsRunOf, Stands, StandsFor}
-use Rattle.m88_board.specs.Moves.{IsAt, IsSameRun, IsUnmoved}
+use Rattle.m88_board.specs.Moves.{IsAt, IsSameRun}
 use Rattle.m88_board.specs.declared.context.Context.{Context}
 use Rattle.m88_tasks.specs.Shared.{Group, moments_then, over_at}
 use Rattle.m88_tasks.specs.Tasks.{ArePrograms, AreSomePrograms, IsPlaceAt, ProgramsView}
@@ -163,23 +162,6 @@ moved g letter moments current old b are timeline same = record {
   named = are.named ∙ ap absent_in (sym same.named);
   begun = same.begun ∙ are.begun;
   places = λ q place h. place_moved g letter moments current q place (are.places q place h);
-}
-
--- memory ran out
-pub unmoved : (g : Group) (moments : ℕ → Moment) (current : ℕ) (old : ProgramsView) (b : BoardView) → ArePrograms g moments current old →
-    IsUnmoved old.board b → ArePrograms g moments current (record old { board = b })
-unmoved g moments current old b are still = record {
-  count = are.count;
-  few = are.few;
-  small = are.small;
-  programs = are.programs;
-  number = are.number;
-  here = are.here;
-  board = still_at (g.programs current) g.named (moments current) old.board b still are.board;
-  limit = ap (λ (d : BoardView). d.limit) still.rest ∙ are.limit;
-  named = are.named ∙ ap (λ (d : BoardView). absent_in d.named) (sym still.rest);
-  begun = ap (λ (d : BoardView). d.begun) still.rest ∙ are.begun;
-  places = are.places;
 }
 
 -- the same where a place was taken

@@ -20,12 +20,11 @@ use Rattle.m88_event.specs.declared.outcome.Outcome.{Outcome}
 use Rattle.m88_tasks.proofs.Choosing.{each_over, no_true}
 use Rattle.m88_tasks.proofs.Isolation.{IsApart, apart_first, apart_on}
 use Rattle.m88_tasks.proofs.Past.{alive_by, events_then, past_then}
-use Rattle.m88_tasks.proofs.Places.{unmoved}
 use Rattle.m88_tasks.proofs.RunAlone.{own_outcome}
 use Rattle.m88_tasks.proofs.Sharing.{CanGo, left, left_at_first, less_left}
 use Rattle.m88_tasks.specs.Letters.{share_letter_at}
 use Rattle.m88_tasks.specs.Shared.{AreOwnOutcomes, Group, IsShared, SharedMoment, after_share, all_over, opening_shared, outcomes_of, over_at, shared_after, shared_at}
-use Rattle.m88_tasks.specs.Tasks.{ArePrograms, AreTasks, AreUnmoved, IsPlaceAt, IsTaken, IsTasksAt, ProgramsView, TasksView, is_over_view, most_shared_events}
+use Rattle.m88_tasks.specs.Tasks.{ArePrograms, AreTasks, IsPlaceAt, IsTaken, IsTasksAt, ProgramsView, TasksView, is_over_view, most_shared_events}
 use Rattle.m88_tasks.specs.declared.letter.ShareLetter.{ShareLetter}
 use Rattle.m88_tasks.specs.declared.shared.Shared.{Shared}
 use Rattle.m88_tasks.specs.declared.shared.Switch.{Switch}
@@ -71,16 +70,6 @@ taken_at g s letter turned t v switches at taken = record {
   events = ap (λ (n : ℕ). n + 1) at.events ∙ sym (events_then g letter s);
   switches = taken.joined;
   past = past_then g letter s at.programs.here at.past;
-}
-
--- memory ran out
-pub refused_at : (g : Group) (s : SharedMoment) (t : TasksView) (v : ProgramsView) → IsTasksAt g s t → AreUnmoved t.programs v →
-    IsTasksAt g s (record t { programs = v })
-refused_at g s t v at still = record {
-  programs = subst (ArePrograms g s.moments s.current) (sym still.rest) (unmoved g s.moments s.current t.programs v.board at.programs still.board);
-  events = at.events;
-  switches = at.switches;
-  past = at.past;
 }
 
 -- what holds after as many events of a run

@@ -6,7 +6,7 @@ use Rattle.m88_base.specs.declared.absent.Absent.{Absent}
 use Rattle.m88_board.specs.Board.{BoardView, local_of}
 use Rattle.m88_board.specs.Contexts.{StandsFor}
 use Rattle.m88_board.specs.Kept.{most_events, most_retired}
-use Rattle.m88_board.specs.Moves.{IsAt, IsUnmoved}
+use Rattle.m88_board.specs.Moves.{IsAt}
 use Rattle.m88_board.specs.declared.context.Context.{Context}
 use Rattle.m88_event.specs.Local.{is_over_by}
 use Rattle.m88_event.specs.Timeline.{Moment}
@@ -104,16 +104,6 @@ pub record AreTasks (t : TasksView) : Type 0 where
   pub moment : SharedMoment
   pub at : IsTasksAt group moment t
   pub counted : t.events ≤ most_events
-
--- memory ran out: all is as before, of the board what can be seen of it
-pub record AreUnmoved (old new : ProgramsView) : Type 0 where
-  pub rest : new ≡ record old { board = new.board }
-  pub board : IsUnmoved old.board new.board
-
--- the same of programs with their events and switches, which are as before too
-pub record AreTasksUnmoved (old new : TasksView) : Type 0 where
-  pub rest : new ≡ record old { programs = new.programs }
-  pub programs : AreUnmoved old.programs new.programs
 
 -- the program that runs took a letter, or the letter `t` came: what was said, where the programs stand then, and the
 -- switches so far

@@ -9,7 +9,7 @@ ghost use Rattle.m88_event.specs.Timeline.{Moment, is_over};
 ghost use Rattle.m88_isa.specs.Machine.{Program};
 ghost use Rattle.m88_tasks.specs.Shared.{Group, SharedMoment, all_over, first_alive, next_from, outcomes_of, over_at, settled_from, switch_by};
 ghost use Rattle.m88_tasks.specs.Inside.Taking.{AreLeft, AreNumbers, IsOutcomeOf, MayExchange, TookLetter, stays};
-ghost use Rattle.m88_tasks.specs.Tasks.{ArePlaces, ArePrograms, AreSomePrograms, AreUnmoved, IsOnlyNone, IsTaken};
+ghost use Rattle.m88_tasks.specs.Tasks.{ArePlaces, ArePrograms, AreSomePrograms, IsOnlyNone, IsTaken};
 ghost use Rattle.m88_tasks.specs.declared.letter.ShareLetter.TheVariants as share;
 
 use crate::letter::ShareLetter;
@@ -138,7 +138,7 @@ impl Programs {
         requires { self.old.board.events < most_events }
         ensures took { IfOk result (λ happened.
             TookLetter stays letter self.old happened self.new) }
-        ensures err { OnErr result (AreUnmoved self.old self.new) }
+        ensures err { OnErr result (self.new ≡ self.old) }
     {
         let happened = self.board.event(letter)?;
         Ok(happened)
@@ -164,7 +164,7 @@ impl Programs {
         requires { self.old.board.events < most_events }
         ensures took { IfOk result (λ happened. TookLetter settled_from letter self.old happened
             self.new) }
-        ensures err { OnErr result (AreUnmoved self.old self.new) }
+        ensures err { OnErr result (self.new ≡ self.old) }
     {
         let happened = self.step(letter)?;
         self.settle();

@@ -5,7 +5,7 @@ ghost use Rattle.m88_board.specs.Kept.{most_events, most_retired};
 ghost use Rattle.m88_mem.specs.Marks.{NamesPages};
 ghost use Rattle.m88_tasks.specs.Inside.Taking.{IsSharedOf};
 ghost use Rattle.m88_tasks.specs.Shared.{Group, IsShared, SharedMoment, all_over};
-ghost use Rattle.m88_tasks.specs.Tasks.{AreTasks, AreTasksUnmoved, BeginsTasks, IsTasksAt, MadeEvent, RanShared, is_over_view, most_programs};
+ghost use Rattle.m88_tasks.specs.Tasks.{AreTasks, BeginsTasks, IsTasksAt, MadeEvent, RanShared, is_over_view, most_programs};
 ghost use Rattle.m88_tasks.specs.declared.shared.Shared.{Shared as SharedValue};
 
 use crate::letter::ShareLetter;
@@ -100,7 +100,7 @@ impl Tasks {
         requires going { is_over_view self.old ≡ false }
         requires room { self.old.events < most_events }
         ensures made { IfOk result (λ turned. MadeEvent letter self.old turned self.new) }
-        ensures err { OnErr result (AreTasksUnmoved self.old self.new) }
+        ensures err { OnErr result (self.new ≡ self.old) }
     {
         let turned = self
             .programs

@@ -12,7 +12,7 @@ use Rattle.m88_isa.specs.ImageProgram.{IsProgramOf}
 use Rattle.m88_isa.specs.Machine.{Program, four_bytes}
 use Rattle.m88_isa.specs.declared.planned.Plan.TheVariants.{Go}
 use Rattle.m88_board.specs.Board.{BoardView, local_of, pc_of}
-use Rattle.m88_board.specs.Moves.{Did, Happens, IsAt, IsEvicted, IsSameRun, IsStep, IsStill, IsUnmoved}
+use Rattle.m88_board.specs.Moves.{Did, Happens, IsAt, IsEvicted, IsSameRun, IsStep, IsStill}
 use Rattle.m88_board.specs.Shown.{Leaves}
 use Rattle.m88_board.specs.Told.{IsTold, IsWordOf, MakesWordAccesses, WentOn}
 use Rattle.m88_board.specs.Inside.Briefly.{happened_of}
@@ -36,7 +36,7 @@ pub record Brings (letter : Letter) (old : BoardView) (brief : Brief) (new : Boa
 -- the event is made, or memory ran out and all is as before
 abbrev pub BringsOrStays : Letter → BoardView → Result Brief NoMemory → BoardView → Type 0
 BringsOrStays letter old (Ok brief) new = Brings letter old brief new
-BringsOrStays letter old (Err e) new = IsUnmoved old new
+BringsOrStays letter old (Err e) new = new ≡ old
 
 -- the letter `e` takes no memory, says so, and makes every page absent
 pub record EvictsAll (old : BoardView) (result : Result Brief NoMemory) (new : BoardView) : Type 0 where
@@ -60,7 +60,7 @@ pub record TellsInstruction (old : BoardView) (before : Told) (result : Result B
 -- the event is made and counted, or memory ran out and all is as before
 abbrev pub HappensOrStays : Letter → BoardView → Result Brief NoMemory → BoardView → Type 0
 HappensOrStays letter old (Ok brief) new = Happens letter old (happened_of brief new) new
-HappensOrStays letter old (Err e) new = IsUnmoved old new
+HappensOrStays letter old (Err e) new = new ≡ old
 
 -- an event of a board that is watched, which is shown behind it
 pub record HappensShown (letter : Letter) (old : BoardView) (before after : Option (List Glance)) (brief : Brief)
@@ -73,7 +73,7 @@ pub record HappensShown (letter : Letter) (old : BoardView) (before after : Opti
 abbrev pub ShownOrStays : Letter → BoardView → Option (List Glance) → Option (List Glance) → Result Brief NoMemory →
     BoardView → Type 0
 ShownOrStays letter old before after (Ok brief) new = HappensShown letter old before after brief new
-ShownOrStays letter old before after (Err e) new = IsUnmoved old new
+ShownOrStays letter old before after (Err e) new = new ≡ old
 
 -- what an event tells of its instruction at a moment, where somebody asks, and that it tells of no accesses but those
 -- of words if none were told before

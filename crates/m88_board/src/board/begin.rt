@@ -5,7 +5,7 @@ ghost use Rattle.m88_base.specs.Slot.{IsWordSlot, slot_word, valid_slot};
 ghost use Rattle.m88_base.specs.declared.absent.Absent.{Absent as AbsentValue};
 ghost use Rattle.m88_ctrl.specs.ControlRegisters.{mxm_of};
 ghost use Rattle.m88_board.specs.Board.{local_of};
-ghost use Rattle.m88_board.specs.Parts.{IsAtWord, MayBegin, last_of, parts_of, seen_of, xip_of};
+ghost use Rattle.m88_board.specs.Parts.{IsAtWord, MayBegin, begun_control, last_of, parts_of, seen_of, xip_of};
 
 use super::Board;
 use crate::parts::Parts;
@@ -57,6 +57,7 @@ impl Board {
         ensures limit { result.limit ≡ limit }
         ensures named { result.named ≡ AbsentValue.None }
         ensures memory { result.memory ≡ parts.memory }
+        ensures control { result.control ≡ begun_control parts.carry }
         ensures events { result.events ≡ parts.events }
         ensures begun { result.begun ≡ true }
     {

@@ -1,10 +1,9 @@
 //! The event of a letter.
 
-ghost use Rattle.std.specs.Prelude.{◌≡◌, ◌<◌, ◌-◌, Ok, IfOk, OnErr};
-ghost use Rattle.m88_event.specs.declared.happened.Happened.{Happened as HappenedValue};
+ghost use Rattle.std.specs.Prelude.{◌≡◌, ◌<◌};
 ghost use Rattle.m88_event.specs.declared.letter.Letter.{Letter as LetterValue};
 ghost use Rattle.m88_board.specs.Kept.{most_events};
-ghost use Rattle.m88_board.specs.Moves.{Happens, IsEvicted, IsUnmoved};
+ghost use Rattle.m88_board.specs.Moves.{MakesEvent};
 ghost use Rattle.m88_board.specs.Inside.Briefly.{happened_of};
 ghost use Rattle.m88_board.specs.Inside.Events.{BringsOrStays, EvictsAll, HappensOrStays, TellsEvent, TellsInstruction};
 ghost use Rattle.m88_board.specs.Told.{MakesWordAccesses};
@@ -41,10 +40,7 @@ impl Board {
     #[inline(always)]
     pub fn event(&mut self, letter: Letter) -> Result<Happened, NoMemory>
         requires { self.old.events < most_events }
-        ensures happens { IfOk result (λ happened. Happens letter self.old happened self.new) }
-        ensures evicts { letter ≡ LetterValue.Evict → result ≡ Ok HappenedValue.Evicted }
-        ensures evicted { letter ≡ LetterValue.Evict → IsEvicted self.old self.new }
-        ensures err { OnErr result (IsUnmoved self.old self.new) }
+        ensures { MakesEvent letter self.old result self.new }
     {
         let brief = self.event_told(letter, &mut Told::nothing())?;
         Ok(self.happened(brief))

@@ -4,6 +4,7 @@ ghost use Rattle.std.specs.Prelude.{ℕ, Bool, [], ◌↔◌, ◌≡◌, ◌<◌
 ghost use Rattle.m88_event.specs.Run.{IsDrain, IsDraining, IsFirst, IsOutcome, IsRunning, NotBefore, answered_after, moment_after, outcome_at, outcome_by};
 ghost use Rattle.m88_event.specs.Timeline.{Moment, is_over, opening_moment};
 ghost use Rattle.m88_event.specs.declared.happened.End.{End as EndValue};
+ghost use Rattle.m88_event.specs.declared.letter.Letter.{Letter as LetterValue};
 ghost use Rattle.m88_event.specs.declared.outcome.Outcome.{Outcome as OutcomeValue};
 ghost use Rattle.m88_isa.specs.Bus.{in_words};
 ghost use Rattle.m88_isa.specs.Held.{most_pending};
@@ -12,7 +13,7 @@ ghost use Rattle.m88_isa.specs.Machine.{IsProgram, Program, state};
 ghost use Rattle.m88_mem.specs.DataBus.{image_bus};
 ghost use Rattle.m88_board.specs.Board.{local_of};
 ghost use Rattle.m88_board.specs.Glances.{Saw, glances_along};
-ghost use Rattle.m88_board.specs.Inside.Events.{ShownOrStays, TellsEvent};
+ghost use Rattle.m88_board.specs.Inside.Events.{EvictsAll, ShownOrStays, TellsEvent};
 ghost use Rattle.m88_board.specs.Inside.Routes.{CanBeCounted, IsBoundedBy, stops_at_event, moments_by};
 ghost use Rattle.m88_board.specs.Kept.{IsKept, most_events};
 ghost use Rattle.m88_board.specs.Moves.{IsAlong, IsAt, IsSameRun};
@@ -36,13 +37,13 @@ impl Board {
     /// memory runs out, the board is gone.
     pub fn run<W: Watch>(mut self, schedule: &Schedule, watch: &mut W) -> Result<Outcome, NoMemory>
         requires { self.events ≡ 0 }
-        ensures outcome { IfOk result (λ o. (p : Program) (named : ℕ → Bool) → IsProgram p
+        ensures outcome { IfOk result (λ o. (p : Program) (named : ℕ → Bool)
             → IsAt p named opening_moment self → IsOutcome p named self.limit schedule.now o) }
         ensures only { (p : Program) (named : ℕ → Bool) (o other : OutcomeValue)
             → IsOutcome p named self.limit schedule.now o
             → IsOutcome p named self.limit schedule.now other
             → o ≡ other }
-        ensures limit_end { IfOk result (λ o. (p : Program) (named : ℕ → Bool) → IsProgram p
+        ensures limit_end { IfOk result (λ o. (p : Program) (named : ℕ → Bool)
             → IsAt p named opening_moment self
             → (o.end ≡ EndValue.Limit) ↔ (o.retired ≡ self.limit)) }
         ensures within { IfOk result (λ o. o.events ≤ length schedule.now + 8 * self.limit + 8) }
@@ -50,11 +51,11 @@ impl Board {
         // Once all transactions of some instructions are done, memory is that of the history.
         ensures words { (p : Program) (n : ℕ) → IsProgram p
             → bus_at p n (transaction_count p n) ≡ in_words (state p n).memory }
-        ensures watched { IfOk result (λ o. (p : Program) (named : ℕ → Bool) → IsProgram p
+        ensures watched { IfOk result (λ o. (p : Program) (named : ℕ → Bool)
             → IsAt p named opening_moment self
             → Saw (W.seen watch.old) (W.seen watch.new)
             (glances_along p (moment_after p named self.limit schedule.now) o.events)) }
-        ensures err { OnErr result ((p : Program) (named : ℕ → Bool) → IsProgram p
+        ensures err { OnErr result ((p : Program) (named : ℕ → Bool)
             → IsAt p named opening_moment self
             → (events : ℕ) × IsRunning p named self.limit schedule.now events
             × Saw (W.seen watch.old) (W.seen watch.new)
@@ -69,19 +70,19 @@ impl Board {
     /// runs out, the board stands after whole events.
     pub fn drain<W: Watch>(&mut self, watch: &mut W) -> Result<(), NoMemory>
         requires { self.old.events + most_pending < most_events }
-        ensures ok { OnOk result ((p : Program) (named : ℕ → Bool) (m : Moment) → IsProgram p
+        ensures ok { OnOk result ((p : Program) (named : ℕ → Bool) (m : Moment)
             → IsAt p named m self.old
             → (events : ℕ) × IsDrain p named self.old.limit m events
             × IsAlong p named (answered_after p named self.old.limit m) events
             (W.seen watch.old) (W.seen watch.new) self.new) }
         ensures empty { OnOk result (self.new.pending ≡ []) }
-        ensures settled { OnOk result ((p : Program) (named : ℕ → Bool) (m : Moment) → IsProgram p
+        ensures settled { OnOk result ((p : Program) (named : ℕ → Bool) (m : Moment)
             → IsAt p named m self.old
             → IsSettled p m self.new) }
         ensures bounded { self.new.events ≤ self.old.events + length self.old.pending }
         ensures lighter { IsNoHeavier self.old self.new }
         ensures same { IsSameRun self.old self.new }
-        ensures err { OnErr result ((p : Program) (named : ℕ → Bool) (m : Moment) → IsProgram p
+        ensures err { OnErr result ((p : Program) (named : ℕ → Bool) (m : Moment)
             → IsAt p named m self.old
             → (events : ℕ) × IsDraining p named self.old.limit m events
             × IsAlong p named (answered_after p named self.old.limit m) events
@@ -94,10 +95,10 @@ impl Board {
     /// out, it stands after whole events.
     // Inlined, so that each caller has the loop of its own route.
     #[inline(always)]
-    #[tactic(auto, using(crate::proofs::Routes::next_counted, crate::proofs::Routes::bounded_still))]
+    #[tactic(auto, using(crate::proofs::Routes::next_counted))]
     pub(crate) fn follow<W: Watch>(&mut self, route: Route, watch: &mut W) -> Result<(), NoMemory>
         requires { CanBeCounted route self.old }
-        ensures ok { OnOk result ((p : Program) (named : ℕ → Bool) (m : Moment) → IsProgram p
+        ensures ok { OnOk result ((p : Program) (named : ℕ → Bool) (m : Moment)
             → IsAt p named m self.old
             → (events : ℕ) × IsFirst (stops_at_event route.entry p named self.old.limit m) events
             × IsAlong p named (moments_by route.entry p named self.old.limit m) events
@@ -109,11 +110,12 @@ impl Board {
         ensures kept { OnOk result (IsKept self.new) }
         ensures bounded { IsBoundedBy route.entry self.old self.new }
         ensures same { IsSameRun self.old self.new }
-        ensures err { OnErr result ((p : Program) (named : ℕ → Bool) (m : Moment) → IsProgram p
+        ensures err { OnErr result ((p : Program) (named : ℕ → Bool) (m : Moment)
             → IsAt p named m self.old
             → (events : ℕ) × NotBefore (stops_at_event route.entry p named self.old.limit m) events
             × IsAlong p named (moments_by route.entry p named self.old.limit m) events
-            (W.seen watch.old) (W.seen watch.new) self.new) }
+            (W.seen watch.old) (W.seen watch.new) self.new
+            × (self.new.events ≡ self.old.events + events)) }
     {
         // Every route ends: what bounds it bounds the events so far.
         let first = self.events;
@@ -138,6 +140,7 @@ impl Board {
         requires { self.old.events < most_events }
         ensures happens { ShownOrStays letter self.old (W.seen watch.old) (W.seen watch.new)
             result self.new }
+        ensures evicts { letter ≡ LetterValue.Evict → EvictsAll self.old result self.new }
         ensures tells { TellsEvent letter self.old told.old result self.new told.new }
         ensures unseen { OnErr result (watch.new ≡ watch.old) }
     {

@@ -6,11 +6,10 @@ ghost use Rattle.m88_event.specs.Local.{is_over_by};
 ghost use Rattle.m88_event.specs.Run.{IsDrain, IsDraining, IsFirst, NotBefore, answered_after};
 ghost use Rattle.m88_event.specs.Timeline.{Moment};
 ghost use Rattle.m88_event.specs.declared.letter.Letter.{Letter as LetterValue};
-ghost use Rattle.m88_isa.specs.Machine.{IsProgram, Program};
+ghost use Rattle.m88_isa.specs.Machine.{Program};
 ghost use Rattle.m88_board.specs.Board.{local_of};
 ghost use Rattle.m88_board.specs.Calls.{MakesNext, StaysOnRun, TakesLetter};
-ghost use Rattle.m88_board.specs.Glances.{Saw, glances_along};
-ghost use Rattle.m88_board.specs.Inside.Events.{ShownOrStays, TellsEvent};
+ghost use Rattle.m88_board.specs.Inside.Events.{EvictsAll, ShownOrStays, TellsEvent};
 ghost use Rattle.m88_board.specs.Moves.{IsAlong, IsAt};
 ghost use Rattle.m88_board.specs.Told.{IsTold, MakesWordAccesses};
 ghost use Rattle.m88_board.specs.Walks.{is_enough, moments_from, stops_after};
@@ -69,6 +68,8 @@ impl<'a> Walk<'a> {
             self.old.board.now (W.seen watch.old) (W.seen watch.new) result self.new.board.now }
         ensures tells { TellsEvent (letter_at self.old.schedule.now self.old.taken)
             self.old.board.now told.old result self.new.board.now told.new }
+        ensures evicts { letter_at self.old.schedule.now self.old.taken ≡ LetterValue.Evict
+            → EvictsAll self.old.board.now result self.new.board.now }
         ensures takes { TakesLetter self.old self.new result }
         ensures unseen { OnErr result (watch.new ≡ watch.old) }
     {
@@ -79,9 +80,10 @@ impl<'a> Walk<'a> {
     }
 
     /// Makes events until the run is over, or the walk is to stop before. The watch is shown the board after each.
-    /// Where memory runs out, the board stands after whole events.
+    /// Where memory runs out, the board stands after as many events as the watch was shown, and so many letters are
+    /// taken.
     pub fn go_until<W: Watch>(&mut self, until: Until, watch: &mut W) -> Result<(), NoMemory>
-        ensures ok { OnOk result ((p : Program) (named : ℕ → Bool) (m : Moment) → IsProgram p
+        ensures ok { OnOk result ((p : Program) (named : ℕ → Bool) (m : Moment)
             → IsAt p named m self.old.board.now
             → (events : ℕ) × IsFirst (stops_after (is_enough until.entry) p named self.old.board.now.limit
             self.old.schedule.now self.old.taken m) events
@@ -90,13 +92,14 @@ impl<'a> Walk<'a> {
             (W.seen watch.old) (W.seen watch.new) self.new.board.now
             × (self.new.taken ≡ self.old.taken + events)) }
         ensures stays { StaysOnRun self.old self.new }
-        ensures err { OnErr result ((p : Program) (named : ℕ → Bool) (m : Moment) → IsProgram p
+        ensures err { OnErr result ((p : Program) (named : ℕ → Bool) (m : Moment)
             → IsAt p named m self.old.board.now
             → (events : ℕ) × NotBefore (stops_after (is_enough until.entry) p named self.old.board.now.limit
             self.old.schedule.now self.old.taken m) events
-            × Saw (W.seen watch.old) (W.seen watch.new)
-            (glances_along p (moments_from p named self.old.board.now.limit
-            self.old.schedule.now self.old.taken m) events)) }
+            × IsAlong p named (moments_from p named self.old.board.now.limit
+            self.old.schedule.now self.old.taken m) events
+            (W.seen watch.old) (W.seen watch.new) self.new.board.now
+            × (self.new.taken ≡ self.old.taken + events)) }
     {
         let before = self.board.events();
         let route = Route::Run {
@@ -114,14 +117,14 @@ impl<'a> Walk<'a> {
     /// Makes `r` events until nothing is pending, which take no letter of the run. The watch is shown the board after
     /// each. Where memory runs out, the board stands after whole events.
     pub fn drain<W: Watch>(&mut self, watch: &mut W) -> Result<(), NoMemory>
-        ensures ok { OnOk result ((p : Program) (named : ℕ → Bool) (m : Moment) → IsProgram p
+        ensures ok { OnOk result ((p : Program) (named : ℕ → Bool) (m : Moment)
             → IsAt p named m self.old.board.now
             → (events : ℕ) × IsDrain p named self.old.board.now.limit m events
             × IsAlong p named (answered_after p named self.old.board.now.limit m) events
             (W.seen watch.old) (W.seen watch.new) self.new.board.now) }
         ensures stays { StaysOnRun self.old self.new }
         ensures taken { self.new.taken ≡ self.old.taken }
-        ensures err { OnErr result ((p : Program) (named : ℕ → Bool) (m : Moment) → IsProgram p
+        ensures err { OnErr result ((p : Program) (named : ℕ → Bool) (m : Moment)
             → IsAt p named m self.old.board.now
             → (events : ℕ) × IsDraining p named self.old.board.now.limit m events
             × IsAlong p named (answered_after p named self.old.board.now.limit m) events

@@ -9,7 +9,7 @@ use Rattle.m88_event.specs.declared.letter.Letter.{Letter}
 use Rattle.m88_event.specs.declared.outcome.Outcome.{Outcome}
 use Rattle.m88_isa.specs.Machine.{Program}
 use Rattle.m88_tasks.specs.Shared.{Group, SharedMoment, all_over, moments_then, shared_at}
-use Rattle.m88_tasks.specs.Tasks.{ArePrograms, AreUnmoved, IsTasksAt, ProgramsView, TasksView, most_programs}
+use Rattle.m88_tasks.specs.Tasks.{ArePrograms, IsTasksAt, ProgramsView, TasksView, most_programs}
 use Rattle.m88_tasks.specs.declared.shared.Shared.{Shared}
 use Rattle.m88_tasks.specs.declared.shared.Switch.{Switch}
 
@@ -37,9 +37,9 @@ pub record TookLetter (chosen : Group → (ℕ → Moment) → ℕ → ℕ) (let
 abbrev pub stays : Group → (ℕ → Moment) → ℕ → ℕ
 stays g moments current = current
 
--- memory ran out: what can be seen of the programs is as before, and so are the switches
+-- memory ran out: the programs are as before, and so are the switches
 pub record AreLeft (old new : ProgramsView) (before after : List Switch) : Type 0 where
-  pub programs : AreUnmoved old new
+  pub programs : new ≡ old
   pub switches : after ≡ before
 
 -- it is what the program of a place came to: that of a context, or of the one that runs, which is there already

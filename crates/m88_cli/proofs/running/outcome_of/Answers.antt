@@ -1,7 +1,6 @@
 -- The board stands at the first moment of the program that the image holds, and its run is that of the program.
 use Rattle.std.proofs.Common.{subst}
 use Rattle.m88_event.specs.Run.{IsOutcome}
-use Rattle.m88_isa.proofs.Laws.{program_of_image}
 use Rattle.m88_mem.specs.Marks.{absent_in}
 use Rattle.m88_cli.specs.Kept.{settings_of}
 use Rattle.m88_cli.proofs.Reporting.{front_by, no_front, on_err, run_by}
@@ -16,19 +15,18 @@ returns-in_err-outcome-clause-front g c =
     on_err c.from_residual-in_err-outcome.result (λ p of mode.
     front_by p c.in_ok-board.board.limit (settings_of c.args.limit c.args.absent.now c.args.schedule.now c.args.mxm) (g.W.Watch.seen c.args.watch.now)
     (g.W.Watch.seen c.run.new.watch) c.in_ok-board.ensures.limit mode
-    (c.in_err-outcome.ensures.err p (absent_in c.args.absent.now) (program_of_image c.args.image.now p c.new.ensures.is_image of)
+    (c.in_err-outcome.ensures.err p (absent_in c.args.absent.now)
     (c.in_ok-board.ensures.at p of mode)))
 
 pub returns-clause-outcome : goal.returns-clause-outcome
 returns-clause-outcome g c = λ p of mode.
     subst (λ n. IsOutcome p (absent_in c.args.absent.now) n c.args.schedule.now c.in_ok-outcome.outcome) c.in_ok-board.ensures.limit
-    (c.in_ok-outcome.ensures.outcome p (absent_in c.args.absent.now) (program_of_image c.args.image.now p c.new.ensures.is_image of)
+    (c.in_ok-outcome.ensures.outcome p (absent_in c.args.absent.now)
     (c.in_ok-board.ensures.at p of mode))
 
 pub returns-clause-watched : goal.returns-clause-watched
 returns-clause-watched g c = λ p of mode.
-    let is = program_of_image c.args.image.now p c.new.ensures.is_image of in
     let at = c.in_ok-board.ensures.at p of mode in
     run_by p c.in_ok-board.board.limit (settings_of c.args.limit c.args.absent.now c.args.schedule.now c.args.mxm) (g.W.Watch.seen c.args.watch.now)
     (g.W.Watch.seen c.run.new.watch) c.in_ok-outcome.outcome c.in_ok-board.ensures.limit mode
-    (c.in_ok-outcome.ensures.outcome p (absent_in c.args.absent.now) is at) (c.in_ok-outcome.ensures.watched p (absent_in c.args.absent.now) is at)
+    (c.in_ok-outcome.ensures.outcome p (absent_in c.args.absent.now) at) (c.in_ok-outcome.ensures.watched p (absent_in c.args.absent.now) at)

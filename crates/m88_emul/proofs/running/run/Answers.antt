@@ -2,6 +2,7 @@
 use Rattle.std.proofs.Common.{rules, [], ℕ, List, ◌≡◌, ◌++◌, false, true, arith, add-one, sym, ap, ap₂, subst, ◌∙◌}
 use Rattle.std.proofs.lemmas.List.{append-nil}
 use Rattle.m88_base.specs.Image.{ProgramImage}
+use Rattle.m88_ctrl.specs.ControlRegisters.{mxm_of}
 use Rattle.m88_event.proofs.Laws.{weight_at_start}
 use Rattle.m88_event.specs.Local.{Local, is_over_by, move}
 use Rattle.m88_event.specs.declared.letter.Letter.{Letter}
@@ -29,7 +30,7 @@ loop-alloc-init c =
     let start = weight_at_start c.args.limit c.args.schedule.now (local_of c.in_ok-board.board) empty in
     record {
       limit = made.limit;
-      clear = made.mxm;
+      clear = ap mxm_of made.control;
       image = made.image;
       counted = made.events;
       room = omega (arith, start);

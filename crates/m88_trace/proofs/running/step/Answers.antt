@@ -26,7 +26,7 @@ returns-in_ok-happened-in-Issue c = ok_both c.note_issue.result c.note_issue.ens
           subst (λ (l : Letter). IsTraced p (after_letter p named limit l m) c.note_issue.new.self) (sym letter)
           (noted p named limit m is at.past at.within (c.upcoming_on-next.ensures p named m there)
           (next.told letter p named m at)
-          (next.goes.said p named m at ∙ ap (λ (l : Letter). said_at p named limit l m) letter) traced);
+          (next.goes.event.happens.said p named m at ∙ ap (λ (l : Letter). said_at p named limit l m) letter) traced);
       taken = next.goes.takes.taken;
       lighter = next.goes.takes.lighter;
       stays = next.goes.takes.stays;
@@ -47,7 +47,7 @@ returns-in_ok-happened-in-Answer c =
           (c.data-due.ensures (few_wait p limit m c.args.sheet.now at.past traced)) in
           subst (λ (l : Letter). IsTraced p (after_letter p named limit l m) c.note_answer.new.self) (sym letter)
           (c.note_answer.ensures.traced p named limit m at.past at.within due
-          (next.goes.said p named m at ∙ ap (λ (l : Letter). said_at p named limit l m) letter) traced);
+          (next.goes.event.happens.said p named m at ∙ ap (λ (l : Letter). said_at p named limit l m) letter) traced);
       taken = next.goes.takes.taken;
       lighter = next.goes.takes.lighter;
       stays = next.goes.takes.stays;

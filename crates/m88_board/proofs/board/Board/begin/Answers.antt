@@ -1,7 +1,8 @@
 -- A board that begins from parts: what always holds of it, and what is seen of it.
-use Rattle.std.proofs.Common.{arith, subst, ◌≡◌}
+use Rattle.std.proofs.Common.{ap, arith, subst, ◌≡◌, ◌∙◌}
 use Rattle.m88_base.proofs.Laws.{few_parts}
 use Rattle.m88_base.specs.Image.{IsImage}
+use Rattle.m88_ctrl.specs.ControlRegisters.{ControlRegisters, with_carry}
 use Rattle.m88_board.proofs.Beginning.{begins, kept_begun, seen_begun}
 use Rattle.m88_board.specs.Board.{BoardView, local_of}
 use Rattle.m88_board.specs.Kept.{IsKept}
@@ -28,6 +29,11 @@ returns-clause-seen c =
     c.lacks_word-lacks_next.ensures c.new.ensures c.set_carry.ensures.state c.new-ctrl.ensures c.into_items.ensures
     c.into_items-2.ensures
     (seen_begun c.args.parts c.args.limit c.of.result c.of.ensures.numbers)
+
+pub returns-clause-control : goal.returns-clause-control
+returns-clause-control c =
+    c.set_carry.ensures.state
+    ∙ ap (λ (r : ControlRegisters). record r { psr = with_carry c.args.parts.carry r.psr }) c.new-ctrl.ensures
 
 -- each part of an image has a byte
 pub prove-unreachable-requires : goal.prove-unreachable-requires

@@ -1,18 +1,15 @@
 -- What is told in brief, as a whole value.
-use Rattle.std.proofs.Common.{◌≡◌, ◌∙◌, ap, subst, sym}
-use Rattle.std.specs.Prelude.{Ok}
-use Rattle.m88_board.specs.Inside.Briefly.{happened_of}
-use Rattle.m88_board.specs.Moves.{Happens}
-use Rattle.m88_board.specs.declared.brief.Brief.TheVariants as brief
+use Rattle.std.proofs.lemmas.Result.{err_from_is_err_and}
+use Rattle.m88_board.proofs.Nexts.{event_made, event_not_made}
 use Rattle.m88_board.proofs.board.Board.event.Goals as goal
 
-pub returns-clause-happens : goal.returns-clause-happens
-returns-clause-happens c =
-    subst (λ h. Happens c.args.letter c.args.self.now h c.event_told.new.self) (sym c.happened.ensures)
-    c.in_ok-brief.ensures.happens
+pub returns : goal.returns
+returns c =
+    event_made c.args.letter c.args.self.now c.event_told.new.self c.in_ok-brief.brief c.happened.result c.happened.ensures
+    c.in_ok-brief.ensures.happens c.in_ok-brief.ensures.evicts
 
-pub returns-clause-evicts : goal.returns-clause-evicts
-returns-clause-evicts c = λ letter.
-    let says = (c.in_ok-brief.ensures.evicts letter).says in
-    let is : c.in_ok-brief.brief ≡ brief.Evicted = cc in
-    ap (λ h. Ok h) (c.happened.ensures ∙ ap (λ b. happened_of b c.event_told.new.self) is)
+pub returns-in_err-brief : goal.returns-in_err-brief
+returns-in_err-brief c =
+    let p = err_from_is_err_and c.from_residual.result c.from_residual.ensures.1 in
+    rw (p.1) (event_not_made c.args.letter c.args.self.now c.event_told.new.self _ c.in_err-brief.ensures.happens
+    c.in_err-brief.ensures.evicts)

@@ -1,13 +1,14 @@
 -- One event of the route after the other, until it stops.
-use Rattle.std.proofs.Common.{ℕ, arith, refl, ap, ap₂, subst, ◌∙◌, ◌-◌, ◌≡◌}
+use Rattle.std.proofs.Common.{ℕ, arith, ap, ap₂, subst, sym, ◌∙◌, ◌-◌, ◌≡◌}
 use Rattle.std.proofs.lemmas.Result.{err_from_is_err_and}
 use Rattle.m88_event.specs.Timeline.{Moment}
 use Rattle.m88_board.proofs.Routes.{bounded_at_first, bounded_behind}
-use Rattle.m88_board.proofs.Still.{same_then}
-use Rattle.m88_board.proofs.Walking.{goes_start, goes_step, still_at, stops_there}
+use Rattle.m88_board.proofs.Still.{same_run, same_then}
+use Rattle.m88_board.proofs.Walking.{goes_start, goes_step, stops_there}
 use Rattle.m88_board.specs.Board.{BoardView}
-use Rattle.m88_board.specs.Inside.Routes.{letters_by, moments_by}
+use Rattle.m88_board.specs.Inside.Routes.{IsBoundedBy, letters_by, moments_by}
 use Rattle.m88_board.specs.Kept.{IsKept}
+use Rattle.m88_board.specs.Moves.{IsAt, IsSameRun}
 use Rattle.m88_board.proofs.board.Board.follow.Goals as goal
 
 pub loop-letter-init : goal.loop-letter-init
@@ -15,9 +16,9 @@ loop-letter-init g c = record {
   begun = subst IsKept c.self.view_is c.self.invariant;
   first = ap (λ (b : BoardView). b.events) c.self.view_is;
   counted = omega arith;
-  same = record { limit = refl; mxm = refl; named = refl; image = refl; begun = refl };
+  same = same_run c.args.self.now;
   bounded = bounded_at_first c.args.route c.args.self.now c.requires;
-  goes = λ p named m is at.
+  goes = λ p named m at.
       goes_start c.args.route p named m (c.args.self.now.events - c.args.self.now.events)
       (g.W.Watch.seen c.args.watch.now) c.args.self.now (omega arith) at;
 }
@@ -44,8 +45,8 @@ loop-letter-preserved g c =
       bounded =
           bounded_behind c.args.route c.in-Some.letter c.args.self.now c.loop-letter.self _ c.step.new.self inv.bounded
           c.in-Some.ensures.going counted is event;
-      goes = λ p named m is-program at.
-          let goes = inv.goes p named m is-program at in
+      goes = λ p named m at.
+          let goes = inv.goes p named m at in
           let here : Moment = moments_by c.args.route p named limit m made in
           goes_step c.args.route p named limit m made (c.step.new.self.events - c.args.self.now.events) _ _ _
           c.in-Some.letter c.loop-letter.self c.step.new.self (omega (arith, counted, one)) inv.same.limit is goes
@@ -57,22 +58,37 @@ loop-letter-preserved g c =
 pub returns-in_err-step-clause-err : goal.returns-in_err-step-clause-err
 returns-in_err-step-clause-err g c =
     let p = err_from_is_err_and c.from_residual.result c.from_residual.ensures.1 in
-    rw (p.1) (λ p named m is at.
-    let goes = c.loop-letter.invariant.goes p named m is at in
-    let made = c.loop-letter.self.events - c.args.self.now.events in (
+    rw (p.1) (λ p named m at.
+    let inv = c.loop-letter.invariant in
+    let goes = inv.goes p named m at in
+    let made = c.loop-letter.self.events - c.args.self.now.events in
+    let still = c.in_err-step.ensures.happens in
+    let counted = inv.counted in
+    let events = ap (λ (b : BoardView). b.events) still in (
       made,
       goes.first,
       record {
-        at = still_at p named (moments_by c.args.route p named c.args.self.now.limit m made) c.loop-letter.self
-            c.step.new.self c.in_err-step.ensures.happens goes.along.at;
+        at = subst (λ (b : BoardView). IsAt p named (moments_by c.args.route p named c.args.self.now.limit m made) b)
+            (sym still) goes.along.at;
         saw = rw c.in_err-step.ensures.unseen goes.along.saw;
       },
+      omega (arith, counted, events),
     ))
 
+pub returns-in_err-step-clause-bounded : goal.returns-in_err-step-clause-bounded
+returns-in_err-step-clause-bounded g c =
+    subst (λ (b : BoardView). IsBoundedBy c.args.route c.args.self.now b) (sym c.in_err-step.ensures.happens)
+    c.loop-letter.invariant.bounded
+
+pub returns-in_err-step-clause-same : goal.returns-in_err-step-clause-same
+returns-in_err-step-clause-same g c =
+    subst (λ (b : BoardView). IsSameRun c.args.self.now b) (sym c.in_err-step.ensures.happens)
+    c.loop-letter.invariant.same
+
 pub returns-clause-ok : goal.returns-clause-ok
-returns-clause-ok g c = λ p named m is at.
+returns-clause-ok g c = λ p named m at.
     let inv = c.loop-letter.invariant in
-    let goes = inv.goes p named m is at in
+    let goes = inv.goes p named m at in
     let counted = inv.counted in
     let limit = c.args.self.now.limit in
     let made = c.loop-letter.self.events - c.args.self.now.events in (

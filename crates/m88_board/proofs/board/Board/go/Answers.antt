@@ -4,9 +4,9 @@ use Rattle.std.proofs.lemmas.Result.{err_from_is_err_and}
 use Rattle.m88_base.specs.declared.slot.Slot.{Slot}
 use Rattle.m88_event.specs.Choice.{issues}
 use Rattle.m88_event.specs.declared.letter.Letter.TheVariants.{Issue}
+use Rattle.m88_mem.specs.DataBus.{MemoryView}
 use Rattle.m88_board.proofs.Brought.{brought}
 use Rattle.m88_board.proofs.Issued.{issued_by, kept_issued}
-use Rattle.m88_board.proofs.Unmoved.{unmoved}
 use Rattle.m88_board.proofs.Leaving.{psr_alone}
 use Rattle.m88_board.specs.contracts.board.Board.{the_view}
 use Rattle.m88_board.specs.declared.brief.Brief.TheVariants.{Issued}
@@ -16,8 +16,7 @@ pub returns-in_err-prepare-clause-err : goal.returns-in_err-prepare-clause-err
 returns-in_err-prepare-clause-err c =
     let p = err_from_is_err_and c.from_residual.result c.from_residual.ensures.1 in
     rw (p.1, ← c.self.view_is)
-    (unmoved (the_view c.self.inside) c.prepare.new.memory c.prepare.ensures.only.bus c.prepare.ensures.only.absent c.prepare.ensures.only.image
-    (search rules))
+    (ap (λ (memory : MemoryView). record (the_view c.self.inside) { memory = memory }) c.in_err-prepare.ensures.err)
 
 pub invariant_of-self-2 : goal.invariant_of-self-2
 invariant_of-self-2 c =

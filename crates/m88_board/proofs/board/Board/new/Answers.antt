@@ -3,15 +3,13 @@ use Rattle.std.proofs.Common.{◌≡◌, ◌∙◌, ◌*◌, ◌/◌, ℕ, Bool,
 use Rattle.m88_base.proofs.Laws.{few_parts}
 use Rattle.m88_base.specs.Image.{IsImage, ProgramImage}
 use Rattle.m88_codec.proofs.Laws.{program_in, program_in_holds, program_in_mxm}
-use Rattle.m88_ctrl.specs.ControlRegisters.{mxm_of}
 use Rattle.m88_event.specs.Timeline.{opening_moment}
 use Rattle.m88_isa.specs.Address.{word_address}
 use Rattle.m88_mem.specs.DataBus.{image_bus}
 use Rattle.m88_mem.specs.Marks.{absent_in}
-use Rattle.m88_board.proofs.Starting.{kept, made, mxm_at, opens}
+use Rattle.m88_board.proofs.Starting.{kept, made, opens}
 use Rattle.m88_isa.specs.ImageProgram.{IsProgramOf}
 use Rattle.m88_isa.specs.Machine.{Program}
-use Rattle.m88_board.specs.Board.{BoardView}
 use Rattle.m88_board.specs.Kept.{IsKept}
 use Rattle.m88_board.specs.Moves.{IsAt}
 use Rattle.m88_board.proofs.board.Board.new.Goals as goal
@@ -34,12 +32,6 @@ returns-in_err-memory-clause-program c = with_mxm c.args.mxm c.args.image.now c.
 
 pub returns-clause-program : goal.returns-clause-program
 returns-clause-program c = with_mxm c.args.mxm c.args.image.now c.part_count.ensures.image
-
-pub returns-clause-mxm : goal.returns-clause-mxm
-returns-clause-mxm c =
-    made (λ (b : BoardView). mxm_of b.control ≡ c.args.mxm) c.args.mxm c.args.limit c.copy.result c.args.absent.now c.new-2.result _ c.new-3.result
-    c.new-4.result c.in_ok-memory.memory c.new-5.result c.new-6.result.items c.new-7.result.items c.copy.ensures c.new-2.ensures
-    c.new-3.ensures c.new-5.ensures c.new-6.ensures.items c.new-7.ensures.items (mxm_at c.args.mxm)
 
 pub returns-clause-at : goal.returns-clause-at
 returns-clause-at c = λ p of mode.

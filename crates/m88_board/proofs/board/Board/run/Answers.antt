@@ -6,7 +6,7 @@ use Rattle.m88_event.specs.Run.{IsFirst, IsOutcome, IsRun, NotBefore, moment_aft
 use Rattle.m88_event.specs.Timeline.{Moment, is_over, opening_moment}
 use Rattle.m88_event.specs.declared.outcome.Outcome.{Outcome}
 use Rattle.m88_isa.specs.History.{transaction_count}
-use Rattle.m88_isa.specs.Machine.{IsProgram, Program}
+use Rattle.m88_isa.specs.Machine.{Program}
 use Rattle.m88_board.proofs.AtMoment.{events_at}
 use Rattle.m88_board.proofs.Walking.{along_events, on_err, run_went}
 use Rattle.m88_board.specs.Board.{BoardView}
@@ -17,13 +17,13 @@ use Rattle.m88_board.proofs.board.Board.run.Given.{Over}
 use Rattle.m88_board.proofs.board.Board.run.Goals as goal
 
 -- the walk went along the run's events to its end
-went : (g : Over) (c : goal.After-outcome g) (p : Program) (named : ℕ → Bool) → IsProgram p →
+went : (g : Over) (c : goal.After-outcome g) (p : Program) (named : ℕ → Bool) →
     IsAt p named opening_moment c.args.self →
     (events : ℕ) × IsRun p named c.args.self.limit c.args.schedule.now events
     × IsAlong p named (moment_after p named c.args.self.limit c.args.schedule.now) events
     (g.W.Watch.seen c.args.watch.now) (g.W.Watch.seen c.go_until.new.watch) c.go_until.new.self.board.now
-went g c p named is at =
-    let walked = c.in_ok-go_until.ensures.ok p named opening_moment is
+went g c p named at =
+    let walked = c.in_ok-go_until.ensures.ok p named opening_moment
     (subst (λ (b : BoardView). IsAt p named opening_moment b) (sym c.new-walk.ensures.board) at) in
     let run = run_went (λ over moments. IsFirst over walked.0
     × IsAlong p named moments walked.0 (g.W.Watch.seen c.args.watch.now) (g.W.Watch.seen c.go_until.new.watch)
@@ -38,10 +38,10 @@ returns-clause-outcome g c =
     IfOk-weaker c.outcome.result
     (λ (o : Outcome). (p : Program) (named : ℕ → Bool) (m : Moment) → IsAt p named m c.self-2-1.given.0
     → is_over p c.self-2-1.given.0.limit m ≡ true → o ≡ outcome_at p m)
-    (λ (o : Outcome). (p : Program) (named : ℕ → Bool) → IsProgram p → IsAt p named opening_moment c.args.self
+    (λ (o : Outcome). (p : Program) (named : ℕ → Bool) → IsAt p named opening_moment c.args.self
     → IsOutcome p named c.args.self.limit c.args.schedule.now o)
-    (λ o value p named is at.
-    let run = went g c p named is at in
+    (λ o value p named at.
+    let run = went g c p named at in
     let last = moment_after p named c.args.self.limit c.args.schedule.now run.0 in
     record {
       events = run.0;
@@ -60,11 +60,11 @@ returns-clause-watched g c =
     let lent = c.self-2-1.given.1 (sym (c.go_until.ensures.stays.lender ∙ c.new-walk.ensures.lender)) in
     IfOk-weaker c.outcome.result
     (λ (o : Outcome). o.events ≡ c.self-2-1.given.0.events)
-    (λ (o : Outcome). (p : Program) (named : ℕ → Bool) → IsProgram p → IsAt p named opening_moment c.args.self
+    (λ (o : Outcome). (p : Program) (named : ℕ → Bool) → IsAt p named opening_moment c.args.self
     → Saw (g.W.Watch.seen c.args.watch.now) (g.W.Watch.seen c.go_until.new.watch)
     (glances_along p (moment_after p named c.args.self.limit c.args.schedule.now) o.events))
-    (λ o counted p named is at.
-    let run = went g c p named is at in
+    (λ o counted p named at.
+    let run = went g c p named at in
     let last = moment_after p named c.args.self.limit c.args.schedule.now run.0 in
     let made : last.events ≡ 0 + run.0 =
     along_events p named c.args.self.limit (letter_at c.args.schedule.now) opening_moment run.0 in
@@ -76,18 +76,18 @@ returns-clause-watched g c =
     c.outcome.ensures.events
 
 pub returns-clause-err : goal.returns-clause-err
-returns-clause-err g c = on_err c.outcome.result (λ p named is at.
-    let run = went g c p named is at in
+returns-clause-err g c = on_err c.outcome.result (λ p named at.
+    let run = went g c p named at in
     (run.0, run.1.first, run.2.saw))
 
 pub returns-in_err-go_until-clause-err : goal.returns-in_err-go_until-clause-err
-returns-in_err-go_until-clause-err g c = on_err c.from_residual.result (λ p named is at.
-    let walked = c.in_err-go_until.ensures.err p named opening_moment is
+returns-in_err-go_until-clause-err g c = on_err c.from_residual.result (λ p named at.
+    let walked = c.in_err-go_until.ensures.err p named opening_moment
     (subst (λ (b : BoardView). IsAt p named opening_moment b) (sym c.new-walk.ensures.board) at) in
     let broke = run_went (λ over moments. NotBefore over walked.0
     × Saw (g.W.Watch.seen c.args.watch.now) (g.W.Watch.seen c.go_until.new.watch) (glances_along p moments walked.0))
     p named c.args.self.limit _ c.args.schedule.now _ _ (ap (λ (b : BoardView). b.limit) c.new-walk.ensures.board)
-    c.new-walk.ensures.schedule c.new-walk.ensures.taken (walked.1, walked.2) in
+    c.new-walk.ensures.schedule c.new-walk.ensures.taken (walked.1, walked.2.saw) in
     (walked.0, broke.0, broke.1))
 
 pub returns-clause-words : goal.returns-clause-words

@@ -1,6 +1,5 @@
 -- A word at a moment.
 use Rattle.std.proofs.Common.{ap, ◌∙◌, ℕ}
-use Rattle.m88_isa.proofs.Laws.{program_of_image}
 use Rattle.m88_board.proofs.Ending.{memory_is}
 use Rattle.m88_board.proofs.Shown.{words_seen}
 use Rattle.m88_board.specs.contracts.board.Board.{the_view}
@@ -14,6 +13,5 @@ returns-clause-moment c = λ p named m at.
 pub returns-clause-drained : goal.returns-clause-drained
 returns-clause-drained c = λ p named m at drained.
     let stands = rw (← c.self.view_is) at at in
-    let is = program_of_image c.self.inside.memory.image p c.self.invariant.image stands.image in
     c.word.ensures
-    ∙ ap (λ (bus : ℕ → ℕ). bus c.args.addr) (memory_is p named m (the_view c.self.inside) is stands drained)
+    ∙ ap (λ (bus : ℕ → ℕ). bus c.args.addr) (memory_is p named m (the_view c.self.inside) c.self.invariant stands drained)

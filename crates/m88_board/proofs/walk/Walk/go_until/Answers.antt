@@ -1,13 +1,22 @@
 -- The route of the run's letters: each event took one.
 use Rattle.std.proofs.Common.{arith}
-use Rattle.std.proofs.lemmas.Result.{on_ok_weaker}
+use Rattle.std.proofs.lemmas.Result.{on_err_weaker, on_ok_weaker}
 use Rattle.m88_board.proofs.walk.Walk.go_until.Goals as goal
 
 pub returns-clause-ok : goal.returns-clause-ok
 returns-clause-ok g c =
-    on_ok_weaker c.follow-went.result (λ ok p named m is at.
-    let went = ok p named m is at in
+    on_ok_weaker c.follow-went.result (λ ok p named m at.
+    let went = ok p named m at in
     let events = went.3 in
     let before = c.events-before.ensures.value in
     let after = c.events.ensures.value in
     (went.0, went.1, went.2, omega (arith, events, before, after))) c.follow-went.ensures.ok
+
+pub returns-clause-err : goal.returns-clause-err
+returns-clause-err g c =
+    on_err_weaker c.follow-went.result (λ err p named m at.
+    let went = err p named m at in
+    let events = went.3 in
+    let before = c.events-before.ensures.value in
+    let after = c.events.ensures.value in
+    (went.0, went.1, went.2, omega (arith, events, before, after))) c.follow-went.ensures.err

@@ -37,7 +37,7 @@ loop-made-preserved g c = record {
             one_told d s k c.letter-letter.result c.noted-before.result c.in_ok-happened.happened c.loop-made.self c.args.text.now.items
             c.loop-made.text.items c.push_event.new.text.items traces.along.stands c.letter-letter.ensures
             (rw c.board-in-loop-made.ensures at c.noted-before.ensures.before)
-            c.in_ok-happened.ensures.goes.said traces.told c.in_ok-push_event.ensures;
+            c.in_ok-happened.ensures.goes.event.happens.said traces.told c.in_ok-push_event.ensures;
       };
   kept = c.loop-made.invariant.kept;
 }

@@ -1,20 +1,13 @@
 -- The board makes the event of its program.
 use Rattle.std.proofs.Common.{ℕ, ap, sym, subst, ◌∙◌}
 use Rattle.m88_event.specs.Timeline.{said_at}
-use Rattle.m88_tasks.proofs.Places.{moved, unmoved}
+use Rattle.m88_tasks.proofs.Places.{moved}
 use Rattle.m88_tasks.specs.Shared.{moments_then}
 use Rattle.m88_tasks.specs.Tasks.{ArePrograms}
 use Rattle.m88_tasks.proofs.programs.Programs.step.Goals as goal
 
 pub invariant_of-self : goal.invariant_of-self
-invariant_of-self c =
-    let some = c.self.invariant in
-    record {
-      group = some.group;
-      moments = some.moments;
-      current = some.current;
-      are = unmoved some.group some.moments some.current _ _ some.are c.in_err-happened.ensures.err;
-    }
+invariant_of-self c = rw c.in_err-happened.ensures.err c.self.invariant
 
 pub invariant_of-self-2 : goal.invariant_of-self-2
 invariant_of-self-2 c =

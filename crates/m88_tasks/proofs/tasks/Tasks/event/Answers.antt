@@ -1,9 +1,10 @@
 -- A letter is taken, and its event counted.
-use Rattle.std.proofs.Common.{◌≡◌, ◌<◌, ◌+◌, ap, false, sym, subst}
+use Rattle.std.proofs.Common.{◌≡◌, ◌∙◌, ◌<◌, ◌+◌, ap, false, sym, subst}
+use Rattle.std.proofs.lemmas.Result.{err_from_is_err_and}
 use Rattle.m88_board.specs.Kept.{most_events}
 use Rattle.m88_tasks.proofs.Events.{event_at, event_tasks, refused_tasks, takes_at}
 use Rattle.m88_tasks.proofs.Running.{board_room}
-use Rattle.m88_tasks.specs.Tasks.{IsTasksAt, TasksView, is_over_view}
+use Rattle.m88_tasks.specs.Tasks.{AreTasks, IsTasksAt, TasksView, is_over_view}
 use Rattle.m88_tasks.proofs.tasks.Tasks.event.Goals as goal
 
 pub take-requires : goal.take-requires
@@ -13,8 +14,16 @@ take-requires c =
 
 pub invariant_of-self : goal.invariant_of-self
 invariant_of-self c =
-    refused_tasks (record { programs = c.self.inside.programs; events = c.self.inside.events; switches = c.self.inside.switches.items })
-    c.take.new.self c.take.new.switches.items c.self.invariant c.in_err-turned.ensures.err.programs c.in_err-turned.ensures.err.switches
+    let old : TasksView = record { programs = c.self.inside.programs; events = c.self.inside.events; switches = c.self.inside.switches.items } in
+    let left = c.in_err-turned.ensures.err in
+    subst AreTasks (sym (refused_tasks old c.take.new.self c.take.new.switches.items left.programs left.switches)) c.self.invariant
+
+pub returns-in_err-turned-clause-err : goal.returns-in_err-turned-clause-err
+returns-in_err-turned-clause-err c =
+    let p = err_from_is_err_and c.from_residual.result c.from_residual.ensures.1 in
+    let old : TasksView = record { programs = c.self.inside.programs; events = c.self.inside.events; switches = c.self.inside.switches.items } in
+    let left = c.in_err-turned.ensures.err in
+    rw (p.1) (refused_tasks old c.take.new.self c.take.new.switches.items left.programs left.switches ∙ c.self.view_is)
 
 pub invariant_of-self-2 : goal.invariant_of-self-2
 invariant_of-self-2 c =
