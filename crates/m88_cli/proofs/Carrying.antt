@@ -7,7 +7,7 @@ use Rattle.m88_event.proofs.Laws.{one_first}
 use Rattle.m88_event.specs.Timeline.{Moment, opening_moment}
 use Rattle.m88_event.specs.declared.letter.Letter.{Letter}
 use Rattle.m88_isa.specs.Address.{word_address}
-use Rattle.m88_isa.specs.Machine.{IsProgram, Program}
+use Rattle.m88_isa.specs.Machine.{Program}
 use Rattle.m88_board.proofs.Laws.{saw_none, saw_then}
 use Rattle.m88_board.specs.Board.{BoardView}
 use Rattle.m88_board.specs.Glances.{Saw}
@@ -214,12 +214,11 @@ carry_broke c commands d start i before here after told monitor below carrying b
     )
 
 -- where a session begins
-pub stands_first : (p : Program) (named : ℕ → Bool) (letters : List Letter) (board : BoardView) (monitor : Monitor) → IsProgram p →
+pub stands_first : (p : Program) (named : ℕ → Bool) (letters : List Letter) (board : BoardView) (monitor : Monitor) →
     IsAt p named opening_moment board → board.limit ≡ session_limit → monitor.walk.board.now ≡ board →
     monitor.walk.schedule.now ≡ letters → monitor.walk.taken ≡ 0 → monitor.breakpoints.items ≡ [] →
     Stands (course_of p named letters) opening_session monitor
-stands_first p named letters board monitor is at limit same schedule taken none = record {
-  program = is;
+stands_first p named letters board monitor at limit same schedule taken none = record {
   schedule = schedule;
   limit = ap (λ (b : BoardView). b.limit) same ∙ limit;
   at = subst (λ (b : BoardView). IsAt p named opening_moment b) (sym same) at;
@@ -231,7 +230,6 @@ stands_first p named letters board monitor is at limit same schedule taken none 
 pub set_stands : (c : Course) (s : Session) (a : ℕ) (old new : Monitor) → Stands c s old → new.walk ≡ old.walk →
     new.breakpoints.items ≡ old.breakpoints.items ++ word_address a ∷ [] → Stands c (after_command c s (Break a) 0) new
 set_stands c s a old new stands walk set = record {
-  program = stands.program;
   schedule = ap (λ (w : Walk). w.schedule.now) walk ∙ stands.schedule;
   limit = ap (λ (w : Walk). w.board.now.limit) walk ∙ stands.limit;
   at = subst (λ (w : Walk). IsAt c.program c.named s.moment w.board.now) (sym walk) stands.at;

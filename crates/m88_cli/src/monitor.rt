@@ -2,7 +2,7 @@
 ghost use Rattle.std.specs.Prelude.{ℕ, Bool, ◌≡◌, ◌<◌, ◌≤◌, ◌+◌, ◌++◌, ◌∷◌, [], List, IfOk, OnErr, OnOk, count_by, length};
 ghost use Rattle.m88_event.specs.Timeline.{opening_moment};
 ghost use Rattle.m88_isa.specs.Address.{word_address};
-ghost use Rattle.m88_isa.specs.Machine.{IsProgram, Program};
+ghost use Rattle.m88_isa.specs.Machine.{Program};
 ghost use Rattle.m88_board.specs.Glances.{Saw};
 ghost use Rattle.m88_board.specs.Moves.{IsAt};
 ghost use Rattle.m88_board.specs.declared.glance.Glance.{Glance};
@@ -44,11 +44,11 @@ pub fn carry_out<W: Watch>(
     requires fresh { board.events ≡ 0 }
     requires limit { board.limit ≡ session_limit }
     requires breaks { count_by is_break commands.now ≤ most_breaks }
-    ensures ok { IfOk result (λ text. (p : Program) (named : ℕ → Bool) → IsProgram p
+    ensures ok { IfOk result (λ text. (p : Program) (named : ℕ → Bool)
         → IsAt p named opening_moment board → (glances : List Glance)
         × IsSession (course_of p named schedule.now) commands.now opening_session text.items glances
         × Saw (W.seen watch.old) (W.seen watch.new) glances) }
-    ensures err { OnErr result ((p : Program) (named : ℕ → Bool) → IsProgram p
+    ensures err { OnErr result ((p : Program) (named : ℕ → Bool)
         → IsAt p named opening_moment board → (glances : List Glance)
         × IsSessionFront (course_of p named schedule.now) commands.now opening_session glances
         × Saw (W.seen watch.old) (W.seen watch.new) glances) }

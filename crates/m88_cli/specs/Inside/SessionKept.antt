@@ -4,7 +4,7 @@ use Rattle.m88_event.specs.Timeline.{Moment, nip_at}
 use Rattle.m88_event.specs.declared.happened.Happened.{Happened}
 use Rattle.m88_event.specs.declared.letter.Letter.{Letter}
 use Rattle.m88_isa.specs.Held.{instruction_at}
-use Rattle.m88_isa.specs.Machine.{IsProgram, Program}
+use Rattle.m88_isa.specs.Machine.{Program}
 use Rattle.m88_board.specs.Glances.{Saw}
 use Rattle.m88_board.specs.Moves.{IsAt}
 use Rattle.m88_board.specs.declared.glance.Glance.{Glance}
@@ -17,7 +17,6 @@ use Rattle.m88_cli.specs.declared.script.MonitorCommand.{MonitorCommand}
 
 -- the monitor stands where a session of a course stands
 pub record Stands (c : Course) (s : Session) (monitor : Monitor) : Type 0 where
-  pub program : IsProgram c.program
   pub schedule : monitor.walk.schedule.now ≡ c.schedule
   pub limit : monitor.walk.board.now.limit ≡ c.limit
   pub at : IsAt c.program c.named s.moment monitor.walk.board.now

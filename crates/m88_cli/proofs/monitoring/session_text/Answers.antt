@@ -1,9 +1,8 @@
 -- The board stands at the first moment of the program that the image holds, and its session is that of the program.
 use Rattle.std.proofs.Common.{◌≡◌, [], ℕ, Bool, List}
 use Rattle.std.proofs.lemmas.Result.{IfOk-weaker, on_err_weaker}
-use Rattle.m88_isa.proofs.Laws.{program_of_image}
 use Rattle.m88_isa.specs.ImageProgram.{IsProgramOf}
-use Rattle.m88_isa.specs.Machine.{IsProgram, Program}
+use Rattle.m88_isa.specs.Machine.{Program}
 use Rattle.m88_event.specs.Timeline.{opening_moment}
 use Rattle.m88_mem.specs.Marks.{absent_in}
 use Rattle.m88_board.specs.Glances.{Saw}
@@ -26,18 +25,18 @@ returns-in_err-board-clause-front g c =
 pub returns-clause-session : goal.returns-clause-session
 returns-clause-session g c =
     IfOk-weaker c.carry_out.result
-    (λ text. (p : Program) (named : ℕ → Bool) → IsProgram p → IsAt p named opening_moment c.in_ok-board.board → (glances : List Glance)
+    (λ text. (p : Program) (named : ℕ → Bool) → IsAt p named opening_moment c.in_ok-board.board → (glances : List Glance)
     × IsSession (course_of p named c.args.schedule.now) c.args.commands.now opening_session text.items glances
     × Saw (g.W.Watch.seen c.args.watch.now) (g.W.Watch.seen c.carry_out.new.watch) glances)
     (λ text. (p : Program) → IsProgramOf c.args.image.now p → p.mxm ≡ c.args.mxm → (glances : List Glance)
     × IsSession (course_of p (absent_in c.args.absent.now) c.args.schedule.now) c.args.commands.now opening_session text.items glances
     × Saw (g.W.Watch.seen c.args.watch.now) (g.W.Watch.seen c.carry_out.new.watch) glances)
     (λ text told p of mode.
-    told p (absent_in c.args.absent.now) (program_of_image c.args.image.now p c.new.ensures.is_image of) (c.in_ok-board.ensures.at p of mode))
+    told p (absent_in c.args.absent.now) (c.in_ok-board.ensures.at p of mode))
     c.carry_out.ensures.ok
 
 pub returns-clause-front : goal.returns-clause-front
 returns-clause-front g c =
     on_err_weaker c.carry_out.result (λ told p of mode.
-    told p (absent_in c.args.absent.now) (program_of_image c.args.image.now p c.new.ensures.is_image of) (c.in_ok-board.ensures.at p of mode))
+    told p (absent_in c.args.absent.now) (c.in_ok-board.ensures.at p of mode))
     c.carry_out.ensures.err
