@@ -1,9 +1,9 @@
-# Completion of the words of m88 for bash: read it in a session, as . contrib/m88.bash, or copy it to the folder of
+# Completion of the words of m88 for bash. Read it in a shell, by . contrib/m88.bash, or copy it to the folder of
 # completions, as /usr/share/bash-completion/completions/m88.
 _m88() {
   local word=${COMP_WORDS[COMP_CWORD]} places place choices
   if [ "$COMP_CWORD" -eq 1 ]; then
-    choices="run exec mon share emu page trace check asm link build dis soak"
+    choices="run exec dis asm link build mon share emu page trace check soak"
   else
     case ${COMP_WORDS[1]} in
       run | exec) places="LIMIT ABSENT SCHEDULE MODE" ;;
@@ -27,7 +27,7 @@ _m88() {
       *) choices="" ;;
     esac
   fi
-  # What a redirection names is a file, which bash completes itself.
+  # Where no word fits, as after <, bash completes the names of files.
   COMPREPLY=($(compgen -W "$choices" -- "$word"))
 }
 complete -o default -F _m88 m88 ./m88

@@ -10,6 +10,9 @@ use m88_listing::{ListStatus, MOST_SOURCE, m88list};
 use std::env;
 use std::process::ExitCode;
 
+/// The version of this program, which manual page and changelog tell too.
+const VERSION: &str = "1.0.0";
+
 /// The exit status where the words can't be had, which the top call never answers.
 const NO_WORDS_STATUS: u8 = 7;
 
@@ -34,7 +37,9 @@ fn main(rt: HostRuntime) -> ExitCode {
 fn tell(rt: &HostRuntime, status: ListStatus) {
     let _ = match status {
         ListStatus::Done => Ok(()),
-        ListStatus::Usage => eprintln!(rt; "usage: m88list < SOURCE > LISTING"),
+        ListStatus::Usage => eprintln!(rt;
+            "m88list {VERSION}: it takes no words and opens no file\nusage: m88list < SOURCE > LISTING"
+        ),
         ListStatus::SourceFault => eprintln!(rt; "m88list: standard input can't be read"),
         ListStatus::SinkFault => eprintln!(rt; "m88list: standard output can't be written"),
         ListStatus::Refused => eprintln!(rt;

@@ -12,11 +12,12 @@ mod usage;
 use crate::advice::{NO_WORDS, advice_on};
 use crate::keeping::{Keeping, Showing};
 use crate::refusal::Refused;
-use crate::usage::Usage;
+use crate::usage::{NoFile, Usage};
 use m88_base::{StdSink, StdSource};
 use m88_board::Unwatched;
 use m88_cli::{Status, m88};
 use std::env;
+use std::path::Path;
 use std::process::ExitCode;
 
 /// The exit status where the words of the command can't be had, which the top call never answers.
@@ -37,8 +38,8 @@ fn main(rt: HostRuntime) -> ExitCode {
     ExitCode::from(status.number())
 }
 
-/// The answer of the top call between standard input and standard output. Of words that are no command and of an
-/// input that is refused a person is told on standard error what was wrong with them.
+/// The answer of the top call between standard input and standard output. Standard error tells a person what is wrong
+/// with words that are no command and with an input that is refused.
 fn carry_out(rt: &HostRuntime, words: &[String]) -> Status {
     let name = match words.first() {
         Some(name) => name.as_str(),
@@ -56,10 +57,17 @@ fn carry_out(rt: &HostRuntime, words: &[String]) -> Status {
     status
 }
 
-/// Tells what is wrong with words that are no command.
+/// Tells what is wrong with words that are no command, and how to have a file read that one of them names.
 fn tell_usage(rt: &HostRuntime, words: &[String]) {
     let usage = Usage::of(rt.alloc(), words);
     let _ = eprintln!(rt; "{usage}");
+    for word in words {
+        if usage.doubts(word.as_str()) && Path::new(word.as_str()).is_file(rt) {
+            let advice = NoFile(word.as_str());
+            let _ = eprintln!(rt; "{advice}");
+            return;
+        }
+    }
 }
 
 /// Tells where and why a command refused its input, by the line that it wrote, and shows the line of the input.

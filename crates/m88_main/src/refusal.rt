@@ -67,11 +67,11 @@ fn line_of(input: &[u8], number: u32) -> Option<&[u8]> {
         if rest.is_empty() {
             return None;
         }
-        let (line, behind) = first_line(rest);
+        let (line, others) = first_line(rest);
         if n == number {
             return Some(line);
         }
-        rest = behind;
+        rest = others;
     }
     None
 }

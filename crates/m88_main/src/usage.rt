@@ -5,7 +5,10 @@ use m88_cli::{MOST_FRAMES, MOST_LIMIT, MOST_STATEMENTS, command};
 use std::alloc::{AllocError, Global};
 use std::fmt;
 
-/// A word behind the name of a command.
+/// The version of this program, which manual page and changelog tell too.
+const VERSION: &str = "1.0.0";
+
+/// A word after the name of a command.
 #[derive(Clone, Copy)]
 pub enum Place {
     Frames,
@@ -27,7 +30,7 @@ impl Place {
             Place::Limit => "LIMIT",
             Place::Absent => "ABSENT",
             Place::Schedule | Place::Turns => "SCHEDULE",
-            Place::Mode => "the word behind SCHEDULE",
+            Place::Mode => "the word after SCHEDULE",
             Place::Number => "NUMBER",
             Place::Count => "COUNT",
         }
@@ -66,7 +69,7 @@ impl fmt::Display for Place {
     }
 }
 
-/// How a command is called: its name, the words behind it, and what it reads.
+/// How a command is called: its name, the words after it, and what it reads.
 #[derive(Clone, Copy)]
 pub struct Form {
     name: &'static str,
@@ -99,6 +102,26 @@ const FORMS: [Form; 13] = [
         reads: " < RECORDS",
     },
     Form {
+        name: "dis",
+        places: &[],
+        reads: " < RECORDS",
+    },
+    Form {
+        name: "asm",
+        places: &[],
+        reads: " < SOURCE",
+    },
+    Form {
+        name: "link",
+        places: &[],
+        reads: " < OBJECTS",
+    },
+    Form {
+        name: "build",
+        places: &[],
+        reads: " < SOURCE",
+    },
+    Form {
         name: "mon",
         places: &SESSION,
         reads: " < SCRIPT-AND-SOURCE",
@@ -129,26 +152,6 @@ const FORMS: [Form; 13] = [
         reads: " < SOURCE-AND-TRACE",
     },
     Form {
-        name: "asm",
-        places: &[],
-        reads: " < SOURCE",
-    },
-    Form {
-        name: "link",
-        places: &[],
-        reads: " < OBJECTS",
-    },
-    Form {
-        name: "build",
-        places: &[],
-        reads: " < SOURCE",
-    },
-    Form {
-        name: "dis",
-        places: &[],
-        reads: " < RECORDS",
-    },
-    Form {
         name: "soak",
         places: &WORKLOAD,
         reads: "",
@@ -156,7 +159,7 @@ const FORMS: [Form; 13] = [
 ];
 
 impl Form {
-    /// How many words stand behind the name at least.
+    /// The least number of words after the name.
     fn fewest(self) -> usize {
         match self.places.split_last() {
             Some((Place::Mode, others)) => others.len(),
@@ -185,15 +188,15 @@ pub enum Usage<'a> {
     All,
     /// The first is no command's name.
     Name(&'a str),
-    /// Behind the name of a command stand too many words or too few: how many there are.
+    /// After the name of a command stand too many words or too few: how many there are.
     Count(Form, usize),
-    /// A word behind the name of a command is not understood there.
+    /// A word after the name of a command is not understood there.
     Word(Form, Place, &'a str),
 }
 
 impl<'a> Usage<'a> {
     pub fn of(alloc: Global, words: &'a [String]) -> Usage<'a> {
-        let Some((name, behind)) = words.split_first() else {
+        let Some((name, others)) = words.split_first() else {
             return Usage::All;
         };
         if name.as_str().starts_with("-") || name.as_str() == "help" {
@@ -202,15 +205,36 @@ impl<'a> Usage<'a> {
         let Some(form) = form_of(name.as_str()) else {
             return Usage::Name(name.as_str());
         };
-        if behind.len() < form.fewest() || behind.len() > form.places.len() {
-            return Usage::Count(form, behind.len());
+        if others.len() < form.fewest() || others.len() > form.places.len() {
+            return Usage::Count(form, others.len());
         }
-        for (at, (place, word)) in form.places.iter().zip(behind).enumerate() {
+        for (at, (place, word)) in form.places.iter().zip(others).enumerate() {
             if !matches!(is_understood(alloc, form, at, word.as_str()), Ok(true)) {
                 return Usage::Word(form, *place, word.as_str());
             }
         }
         Usage::All
+    }
+
+    /// Whether a word of the call is one that may be wrong, and so the name of a file that was meant to be read.
+    pub fn doubts(&self, word: &str) -> bool {
+        match self {
+            Usage::All => false,
+            Usage::Name(_) => true,
+            Usage::Count(form, _) => word != form.name,
+            Usage::Word(_, _, wrong) => word == *wrong,
+        }
+    }
+}
+
+/// What to write in place of the name of a file.
+#[derive(Clone, Copy)]
+pub struct NoFile<'a>(pub &'a str);
+
+impl<'a> fmt::Display for NoFile<'a> {
+    fn fmt<W: fmt::Write>(&self, f: &mut fmt::Formatter<W>) -> fmt::Result {
+        f.write_str("m88 reads standard input and opens no file: write < ")?;
+        put_word(f, self.0)
     }
 }
 
@@ -242,14 +266,11 @@ impl<'a> fmt::Display for Usage<'a> {
                 put_all(f)
             }
             Usage::Count(form, count) => {
-                write!(f, "m88 {}: {}", form.name, form.fewest())?;
+                write!(f, "m88 {}: it takes {}", form.name, form.fewest())?;
                 if form.fewest() < form.places.len() {
                     write!(f, " or {}", form.places.len())?;
                 }
-                write!(
-                    f,
-                    " words are wanted behind the name, and {count} are there\nusage: {form}"
-                )
+                write!(f, " words after its name, not {count}\nusage: {form}")
             }
             Usage::Word(form, place, word) => {
                 write!(f, "m88 {}: {} can't be ", form.name, place.name())?;
@@ -260,9 +281,9 @@ impl<'a> fmt::Display for Usage<'a> {
     }
 }
 
-/// How every command is called, a command a line, and what its words are.
+/// The version, how every command is called, a command a line, and what its words are.
 fn put_all<W: fmt::Write>(f: &mut fmt::Formatter<W>) -> fmt::Result {
-    f.write_str("usage:")?;
+    write!(f, "m88 {VERSION}\nusage:")?;
     for form in &FORMS {
         write!(f, "\n  {form}")?;
     }
@@ -284,7 +305,7 @@ fn put_all<W: fmt::Write>(f: &mut fmt::Formatter<W>) -> fmt::Result {
 /// How many bytes of a word are shown.
 const WIDTH: usize = 40;
 
-/// A word in quotes as a terminal can show it; of a long one the front.
+/// A word in quotes as a terminal can show it; the front of a long one.
 fn put_word<W: fmt::Write>(f: &mut fmt::Formatter<W>, word: &str) -> fmt::Result {
     let bytes = word.as_bytes();
     f.write_str("'")?;
