@@ -159,6 +159,10 @@ const FORMS: [Form; 13] = [
 ];
 
 impl Form {
+    fn reads_input(self) -> bool {
+        !self.reads.is_empty()
+    }
+
     /// The least number of words after the name.
     fn fewest(self) -> usize {
         match self.places.split_last() {
@@ -221,8 +225,8 @@ impl<'a> Usage<'a> {
         match self {
             Usage::All => false,
             Usage::Name(_) => true,
-            Usage::Count(form, _) => word != form.name,
-            Usage::Word(_, _, wrong) => word == *wrong,
+            Usage::Count(form, _) => form.reads_input() && word != form.name,
+            Usage::Word(form, _, wrong) => form.reads_input() && word == *wrong,
         }
     }
 }
