@@ -31,3 +31,15 @@ _m88() {
   COMPREPLY=($(compgen -W "$choices" -- "$word"))
 }
 complete -o default -F _m88 m88 ./m88
+# Of contrib/bench a source or records, then the words of its board; of contrib/many a folder, then what its inputs are.
+_m88_beside() {
+  local word=${COMP_WORDS[COMP_CWORD]} choices=
+  case ${COMP_WORDS[0]##*/}:$COMP_CWORD in
+    bench:2) choices="none all" ;;
+    bench:3) choices="- i r e" ;;
+    bench:4) choices="mxm" ;;
+    many:2) choices="soak schedules pages again" ;;
+  esac
+  COMPREPLY=($(compgen -W "$choices" -- "$word"))
+}
+complete -o default -F _m88_beside bench many
