@@ -39,7 +39,7 @@ const PIECE: usize = 7;
 /// The greatest length of pieces, and how often a line is repeated at most.
 const MOST: usize = 65_536;
 
-/// The rows of a file's text. A line that can't be understood is told by its number.
+/// The rows of a file's text. A line that can't be understood is named by its number.
 pub fn rows_of(alloc: Global, text: &str) -> Result<Vec<Row>> {
     let mut rows = Vec::new(alloc);
     let mut above = Sign::Remark;
@@ -65,7 +65,7 @@ fn take_line(
     number: u64,
     line: &str,
 ) -> Result<Sign> {
-    let Some((sign, rest)) = parted(line) else {
+    let Some((sign, rest)) = split_sign(line) else {
         bail!("a line begins with no sign");
     };
     match sign {
@@ -79,8 +79,8 @@ fn take_line(
     Ok(sign)
 }
 
-/// The sign of a line, and what stands behind it.
-fn parted(line: &str) -> Option<(Sign, &str)> {
+/// The sign of a line, and the rest of it.
+fn split_sign(line: &str) -> Option<(Sign, &str)> {
     if line.is_empty() || line.starts_with("#") {
         return Some((Sign::Remark, ""));
     }
@@ -124,10 +124,11 @@ fn take_rest(
         Sign::Input => push_line(&mut row.input, rest)?,
         Sign::Repeated => push_repeated(&mut row.input, rest)?,
         Sign::Text(place) => push_text(alloc, row, place, above == sign, rest)?,
-        Sign::Status => row.status = named(rest)?,
+        Sign::Status if row.status == Status::Done => row.status = named(rest)?,
+        Sign::Status => bail!("a row has one status"),
         Sign::Pieces => push_pieces(&mut row.pieces, rest)?,
         Sign::Variant => push_variant(alloc, row, number, rest)?,
-        Sign::Remark | Sign::Command => {}
+        Sign::Remark | Sign::Command => bail!("the line is none of a row"),
     }
     Ok(())
 }
@@ -141,7 +142,7 @@ fn push_line(lines: &mut String, line: &str) -> Result<(), AllocError> {
 /// Appends a line of the input as often as the number before it says.
 fn push_repeated(lines: &mut String, rest: &str) -> Result<()> {
     let Some((count, line)) = rest.split_once(" ") else {
-        bail!("a number and a line stand behind `*`");
+        bail!("a number and a line stand after `*`");
     };
     let count = number_of(count)?;
     for _ in 0..count {
@@ -174,6 +175,9 @@ fn named(name: &str) -> Result<Status> {
 
 /// Appends lengths of pieces.
 fn push_pieces(pieces: &mut Vec<usize>, rest: &str) -> Result<()> {
+    if rest.trim().is_empty() {
+        bail!("no length stands after `/`");
+    }
     for word in rest.split_whitespace() {
         pieces.push(number_of(word)?)?;
     }

@@ -71,7 +71,7 @@ fn filled(alloc: Global, line: &str, cells: Option<&[String]>) -> Result<String>
     Ok(text)
 }
 
-/// Appends what a letter behind a percent sign stands for.
+/// Appends what a letter after a percent sign stands for.
 fn push_cell(text: &mut String, letter: char, cells: &[String]) -> Result<()> {
     if letter == '%' {
         text.push('%')?;
@@ -109,7 +109,7 @@ fn begun(bytes: &mut Vec<u8>, byte: u8) -> Result<Escape> {
     Ok(Escape::Outside)
 }
 
-/// Appends what a letter behind a backslash stands for.
+/// Appends what a letter after a backslash stands for.
 fn escaped(bytes: &mut Vec<u8>, letter: u8) -> Result<Escape> {
     let byte = match letter {
         b'x' => return Ok(Escape::High),

@@ -80,7 +80,7 @@ impl<'a> Try<'a> {
 
     /// Counts the try, and appends what is wrong with it.
     fn count(&self, alloc: Global, tally: &mut Tally, wrong: &mut Vec<String>) -> Result<()> {
-        let told = match self.told(alloc) {
+        let told = match self.difference(alloc) {
             Ok(told) => told,
             Err(fault) => Some(format!(in alloc; "{fault}")?),
         };
@@ -112,7 +112,7 @@ impl<'a> Try<'a> {
     }
 
     /// What was wanted and what came, where that isn't the same.
-    fn told(&self, alloc: Global) -> Result<Option<String>> {
+    fn difference(&self, alloc: Global) -> Result<Option<String>> {
         let (status, held) = self.run(alloc)?;
         if status == self.row.status && self.agrees(alloc, held.as_slice())? {
             return Ok(None);
@@ -143,6 +143,9 @@ impl<'a> Try<'a> {
         }
         for text in texts {
             let bytes = bytes_of(alloc, text.lines.as_str(), self.cells())?;
+            if bytes.is_empty() && text.place != Place::Whole {
+                bail!("a part is empty, which every text has");
+            }
             if !stands(text.place, bytes.as_slice(), held) {
                 return Ok(false);
             }
