@@ -1,6 +1,5 @@
 //! The programs of the folder examples, without their comments, but for the two that share a board: each runs from its
-//! source, from its records and by way of its objects, with one report in which a line stands that docs/BOARD.md or the
-//! README shows.
+//! source, from its records and by way of its objects, with one report, and a line of it is held here.
 
 use crate::tests::told;
 use m88_cli::Status;
@@ -217,7 +216,7 @@ fn each_example_has_one_report_in_three_ways(rt: HostRuntime) -> Result<(), Fail
 fn expect_one_report(rt: &impl Abort, alloc: Global, rows: &[Example]) -> Result<(), Fail> {
     for (source, run, exec, line) in rows {
         let records = records_of(rt, alloc, source)?;
-        let report = written(rt, alloc, exec, records.as_slice())?;
+        let report = bytes_written(rt, alloc, exec, records.as_slice())?;
         expect_text(rt, alloc, run, source, report.as_slice(), line)?;
     }
     Ok(())
@@ -232,7 +231,7 @@ fn expect_text(
     text: &[u8],
     line: &str,
 ) -> Result<(), Fail> {
-    let held = written(rt, alloc, command, input)?;
+    let held = bytes_written(rt, alloc, command, input)?;
     assert!(rt; held.as_slice() == text, "{command}: {held:?}");
     let text = String::from_utf8_lossy(alloc, text)?;
     assert!(rt; text.as_str().contains(line), "{command}: {text}");
@@ -241,15 +240,20 @@ fn expect_text(
 
 /// The S-records of a source by way of its objects; ends the test where `build` writes others.
 fn records_of(rt: &impl Abort, alloc: Global, source: &[u8]) -> Result<Vec<u8>, Fail> {
-    let objects = written(rt, alloc, "asm", source)?;
-    let linked = written(rt, alloc, "link", objects.as_slice())?;
-    let built = written(rt, alloc, "build", source)?;
+    let objects = bytes_written(rt, alloc, "asm", source)?;
+    let linked = bytes_written(rt, alloc, "link", objects.as_slice())?;
+    let built = bytes_written(rt, alloc, "build", source)?;
     assert!(rt; linked == built, "{source:?}");
     Ok(linked)
 }
 
 /// The text of a command that accepts its input; ends the test where it doesn't.
-fn written(rt: &impl Abort, alloc: Global, line: &str, input: &[u8]) -> Result<Vec<u8>, Fail> {
+fn bytes_written(
+    rt: &impl Abort,
+    alloc: Global,
+    line: &str,
+    input: &[u8],
+) -> Result<Vec<u8>, Fail> {
     let (answer, held) = told(alloc, line, input)?;
     assert!(rt; answer == Status::Done, "{line} is answered {answer:?}");
     Ok(held)

@@ -117,9 +117,10 @@ fn the_monitor_shows_at_most_1024_words(rt: HostRuntime) -> Result<(), Fail> {
 }
 
 /// Four loads, of which the data unit has room for three; the page of the last is absent in these runs.
-const FOUR_LOADS: &str = "ld r2,r0,0x5000\nld r3,r0,0x5004\nld r4,r0,0x5008\nld r5,r0,0x6000\n";
+const LOADS_OF_TWO_PAGES: &str =
+    "ld r2,r0,0x5000\nld r3,r0,0x5004\nld r4,r0,0x5008\nld r5,r0,0x6000\n";
 
-/// Runs by as many letters as there may be, and the end of what is told of them.
+/// Runs by as many letters as there may be, and the end of the end of their reports.
 const LONGEST: &[(Pieces, &str)] = &[
     (
         &[("run 4 6 ", 1), ("i", 65_536)],
@@ -153,7 +154,7 @@ const LONGEST: &[(Pieces, &str)] = &[
 #[test]
 fn letters_without_work_are_counted(rt: HostRuntime) -> Result<(), Fail> {
     for (words, end) in LONGEST {
-        let text = text_of(&rt, rt.alloc(), words, FOUR_LOADS)?;
+        let text = text_of(&rt, rt.alloc(), words, LOADS_OF_TWO_PAGES)?;
         assert!(rt; text.as_str().ends_with(end), "{text}");
     }
     Ok(())

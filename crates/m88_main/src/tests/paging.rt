@@ -163,7 +163,7 @@ fn frames_change_no_report(rt: HostRuntime) -> Result<(), Fail> {
     Ok(())
 }
 
-/// Ends the test unless a source has its report of `run` before each number of frames, with the counts behind it.
+/// Ends the test unless a source has its report of `run` before each number of frames, with the counts after it.
 fn expect_paged(
     rt: &impl Abort,
     alloc: Global,

@@ -46,7 +46,7 @@ fn what_trace_writes_is_checked(rt: HostRuntime) -> Result<(), Fail> {
     Ok(())
 }
 
-/// A source whose last line is ended, a line `trace`, and a text behind it.
+/// A source whose last line is ended, a line `trace`, and a text after it.
 fn with_trace(alloc: Global, source: &[u8], text: &[u8]) -> Result<Vec<u8>, AllocError> {
     let mut input = Vec::from_slice(alloc, source)?;
     input.extend_from_slice(b"trace\n")?;

@@ -52,7 +52,7 @@ const PROGRAMS: &[(&str, &str, &str)] = &[
     ("program\n", "program 8\n", ""),
 ];
 
-/// A schedule of the first of them, the letters that each of these takes, and what stands behind
+/// A schedule of the first of them, the letters that each of these takes, and what stands after
 /// their reports.
 const TAKEN: &[(&str, &[&str], &str)] = &[
     (

@@ -91,6 +91,21 @@ const WATCHED: &[Watched] = &[
         ],
     ),
     (
+        "mon none iiiiri",
+        b"trace 6\ndrain\nsource\nld r2,r0,0x5000\nld r3,r0,0x5004\nld r4,r0,0x5008\nld r5,r0,0x6000\n",
+        &[
+            (1, 1, 0, 0x1004, true, false),
+            (2, 2, 0, 0x1008, true, false),
+            (3, 3, 0, 0x100C, true, false),
+            (4, 3, 0, 0x100C, true, false),
+            (5, 3, 1, 0x100C, true, false),
+            (6, 4, 1, 0x1010, true, true),
+            (7, 4, 2, 0x1010, true, true),
+            (8, 4, 3, 0x1010, true, true),
+            (9, 4, 4, 0x1010, true, true),
+        ],
+    ),
+    (
         "run 1 none ireer mxm",
         b"ld.d r2,r0,0x5003\n",
         &[

@@ -1,4 +1,4 @@
-//! The control registers by their numbers, and an exception with its return, told by hand.
+//! The control registers by their numbers, and an exception with its return, worked by hand.
 
 use m88_base::{NO_TRIPLE, Triple};
 use m88_ctrl::{Control, Frame, Restart, cr};

@@ -15,6 +15,11 @@ fn no_instruction_and_no_exchange_is_emulated(rt: HostRuntime) -> Result<(), NoM
         let done = emulate(rt.alloc(), 4, word, &mut regs, &mut memory)?;
         assert!(rt; done == Emulated::Not, "{word:08X}");
     }
+    // div r4,r2,r3, which raises nothing
+    regs[2] = 6;
+    regs[3] = 2;
+    let done = emulate(rt.alloc(), 8, 0xF482_7803, &mut regs, &mut memory)?;
+    assert!(rt; done == Emulated::Not);
     assert!(rt; memory.is_absent(0));
     Ok(())
 }

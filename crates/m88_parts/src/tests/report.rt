@@ -1,4 +1,4 @@
-//! A report that no run comes to, by hand from the format.
+//! A report that no run has, by hand from the format.
 
 use m88_base::{Listed, NO_TRIPLE, NoMemory, Triple};
 use m88_event::{End, Outcome, Record};
@@ -31,7 +31,7 @@ const THREE_LOADS: Record = Record {
     ],
 };
 
-/// No run comes to this: the lines are written by hand from the format, so that two changed words, two faults, an
+/// No run has this report: the lines are written by hand from the format, so that two changed words, two faults, an
 /// output, the carry and a register of each line stand in one text.
 #[test]
 fn all_lines_at_once(rt: HostRuntime) -> Result<(), NoMemory> {

@@ -3,7 +3,7 @@ ghost use Rattle.std.specs.Prelude.{◌≡◌, false};
 
 use m88_base::{Absent, Image, NoMemory};
 use m88_board::{Board, Context};
-use m88_event::{Happened, Letter, Outcome, Record};
+use m88_event::{End, Happened, Letter, Outcome, Record};
 use m88_tasks::{ShareLetter, Switch, Tasks, Turned};
 use std::alloc::Global;
 use std::process::Abort;
@@ -116,10 +116,13 @@ fn hand_over(alloc: Global, board: &mut Board, image: &Image) -> Result<(Record,
 
 /// Ends the test unless a program retired two instructions in three events.
 fn expect_came(rt: &impl Abort, outcome: &Outcome, r2: u32, r3: u32) {
+    assert!(rt; outcome.end == End::Limit);
     assert_eq!(rt; outcome.retired, 2);
     assert_eq!(rt; outcome.regs[2], r2);
     assert_eq!(rt; outcome.regs[3], r3);
     assert_eq!(rt; outcome.events, 3);
+    assert_eq!(rt; outcome.answers, 0);
+    assert!(rt; outcome.records.as_slice().is_empty());
 }
 
 /// The record of the program that runs.
