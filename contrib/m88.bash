@@ -31,15 +31,20 @@ _m88() {
   COMPREPLY=($(compgen -W "$choices" -- "$word"))
 }
 complete -o default -F _m88 m88 ./m88
-# Of contrib/bench a source or records, then the words of its board; of contrib/many a folder, then what its inputs are.
+# Of contrib/bench a source or records, then the words of its board; of contrib/session these words; of contrib/own the letters
+# of a shared run; of contrib/many a folder, then what its inputs are. contrib/ticks takes two numbers.
 _m88_beside() {
   local word=${COMP_WORDS[COMP_CWORD]} choices=
   case ${COMP_WORDS[0]##*/}:$COMP_CWORD in
     bench:2) choices="none all" ;;
     bench:3) choices="- i r e" ;;
     bench:4) choices="mxm" ;;
+    session:1) choices="none all" ;;
+    session:2) choices="- i r e" ;;
+    session:4) choices="mxm" ;;
+    own:1) choices="- i r e t" ;;
     many:2) choices="soak schedules pages again" ;;
   esac
   COMPREPLY=($(compgen -W "$choices" -- "$word"))
 }
-complete -o default -F _m88_beside bench many
+complete -o default -F _m88_beside bench session own many
