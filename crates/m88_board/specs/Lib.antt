@@ -1,3 +1,5 @@
+-- What contracts cite: the board and its parts, what a walk along a run and its calls come to, what is kept and told;
+-- Inside is for private contracts.
 pub mod Board
 pub mod Kept
 pub mod Glances
