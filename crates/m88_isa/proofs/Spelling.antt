@@ -52,6 +52,6 @@ lettered (b ∷ bs) letter m first same =
 
 -- no mnemonic is empty
 pub letterless : (name : List ℕ) (m : Mnemonic) → slice_get name 0 ≡ None → text_of m ≡ name → None ≡ Some m
-unfolding begun_with
+unfolding begun_with text_of
 letterless [] m first same = ap mnemonic_of (sym same) ∙ spelled_once m
 letterless (b ∷ bs) m first same = absurd cc

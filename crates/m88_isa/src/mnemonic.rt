@@ -209,8 +209,8 @@ const SPELLINGS: [&str; 91] = [
     "fxcr",
 ];
 
-/// The mnemonics that begin with the letter a.
-const WITH_A: [Mnemonic; 11] = [
+/// All mnemonics, by their first letters from a to x.
+const MNEMONICS: [Mnemonic; 91] = [
     Mnemonic::And,
     Mnemonic::AndC,
     Mnemonic::AndU,
@@ -222,10 +222,6 @@ const WITH_A: [Mnemonic; 11] = [
     Mnemonic::AddCo,
     Mnemonic::AddCi,
     Mnemonic::AddCio,
-];
-
-/// The mnemonics that begin with the letter b.
-const WITH_B: [Mnemonic; 10] = [
     Mnemonic::Br,
     Mnemonic::BrN,
     Mnemonic::Bsr,
@@ -236,31 +232,21 @@ const WITH_B: [Mnemonic; 10] = [
     Mnemonic::Bb1N,
     Mnemonic::Bcnd,
     Mnemonic::BcndN,
-];
-
-/// The mnemonics that begin with the letter c.
-const WITH_C: [Mnemonic; 2] = [Mnemonic::Cmp, Mnemonic::Clr];
-
-/// The mnemonics that begin with the letter d.
-const WITH_D: [Mnemonic; 2] = [Mnemonic::Divu, Mnemonic::Div];
-
-/// The mnemonics that begin with the letter e.
-const WITH_E: [Mnemonic; 2] = [Mnemonic::Ext, Mnemonic::Extu];
-
-/// The mnemonics that begin with the letter f.
-const WITH_F: [Mnemonic; 5] = [
+    Mnemonic::Cmp,
+    Mnemonic::Clr,
+    Mnemonic::Divu,
+    Mnemonic::Div,
+    Mnemonic::Ext,
+    Mnemonic::Extu,
     Mnemonic::Ff1,
     Mnemonic::Ff0,
     Mnemonic::Fldcr,
     Mnemonic::Fstcr,
     Mnemonic::Fxcr,
-];
-
-/// The mnemonics that begin with the letter j.
-const WITH_J: [Mnemonic; 4] = [Mnemonic::Jmp, Mnemonic::JmpN, Mnemonic::Jsr, Mnemonic::JsrN];
-
-/// The mnemonics that begin with the letter l.
-const WITH_L: [Mnemonic; 16] = [
+    Mnemonic::Jmp,
+    Mnemonic::JmpN,
+    Mnemonic::Jsr,
+    Mnemonic::JsrN,
     Mnemonic::LdHu,
     Mnemonic::LdHuUsr,
     Mnemonic::LdBu,
@@ -277,24 +263,15 @@ const WITH_L: [Mnemonic; 16] = [
     Mnemonic::Lda,
     Mnemonic::LdaH,
     Mnemonic::Ldcr,
-];
-
-/// The mnemonics that begin with the letter m.
-const WITH_M: [Mnemonic; 4] = [
     Mnemonic::Mask,
     Mnemonic::MaskU,
     Mnemonic::Mul,
     Mnemonic::Mak,
-];
-
-/// The mnemonics that begin with the letter o.
-const WITH_O: [Mnemonic; 3] = [Mnemonic::Or, Mnemonic::OrC, Mnemonic::OrU];
-
-/// The mnemonics that begin with the letter r.
-const WITH_R: [Mnemonic; 2] = [Mnemonic::Rot, Mnemonic::Rte];
-
-/// The mnemonics that begin with the letter s.
-const WITH_S: [Mnemonic; 18] = [
+    Mnemonic::Or,
+    Mnemonic::OrC,
+    Mnemonic::OrU,
+    Mnemonic::Rot,
+    Mnemonic::Rte,
     Mnemonic::StD,
     Mnemonic::StDUsr,
     Mnemonic::St,
@@ -313,13 +290,10 @@ const WITH_S: [Mnemonic; 18] = [
     Mnemonic::SubCio,
     Mnemonic::Set,
     Mnemonic::Stcr,
-];
-
-/// The mnemonics that begin with the letter t.
-const WITH_T: [Mnemonic; 4] = [Mnemonic::Tb0, Mnemonic::Tb1, Mnemonic::Tcnd, Mnemonic::Tbnd];
-
-/// The mnemonics that begin with the letter x.
-const WITH_X: [Mnemonic; 8] = [
+    Mnemonic::Tb0,
+    Mnemonic::Tb1,
+    Mnemonic::Tcnd,
+    Mnemonic::Tbnd,
     Mnemonic::XmemBu,
     Mnemonic::XmemBuUsr,
     Mnemonic::Xmem,
@@ -330,26 +304,26 @@ const WITH_X: [Mnemonic; 8] = [
     Mnemonic::Xcr,
 ];
 
-/// The mnemonics that begin with a letter, in the order of all of them.
-#[tactic(auto, unfolding(crate::specs::Inside::Letters::begun_with))]
+/// The mnemonics that begin with a letter: a part of all of them.
+#[tactic(auto, unfolding(crate::specs::Inside::Letters::begun_with, crate::specs::Mnemonic::text_of))]
 fn begun_with(letter: u8) -> &'static [Mnemonic]
     ensures { result.now ≡ begun_with letter }
 {
     match letter {
-        b'a' => &WITH_A,
-        b'b' => &WITH_B,
-        b'c' => &WITH_C,
-        b'd' => &WITH_D,
-        b'e' => &WITH_E,
-        b'f' => &WITH_F,
-        b'j' => &WITH_J,
-        b'l' => &WITH_L,
-        b'm' => &WITH_M,
-        b'o' => &WITH_O,
-        b'r' => &WITH_R,
-        b's' => &WITH_S,
-        b't' => &WITH_T,
-        b'x' => &WITH_X,
+        b'a' => &MNEMONICS[0..11],
+        b'b' => &MNEMONICS[11..21],
+        b'c' => &MNEMONICS[21..23],
+        b'd' => &MNEMONICS[23..25],
+        b'e' => &MNEMONICS[25..27],
+        b'f' => &MNEMONICS[27..32],
+        b'j' => &MNEMONICS[32..36],
+        b'l' => &MNEMONICS[36..52],
+        b'm' => &MNEMONICS[52..56],
+        b'o' => &MNEMONICS[56..59],
+        b'r' => &MNEMONICS[59..61],
+        b's' => &MNEMONICS[61..79],
+        b't' => &MNEMONICS[79..83],
+        b'x' => &MNEMONICS[83..91],
         _ => &[],
     }
 }

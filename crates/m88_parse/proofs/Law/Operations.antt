@@ -45,7 +45,7 @@ directive_once directive.Text = refl
 directive_once _ = refl
 
 no_mnemonic : (d : Directive) → mnemonic_of (directive_text d) ≡ None
-unfolding directive_text begun_with
+unfolding directive_text begun_with text_of
 no_mnemonic directive.Text = refl
 no_mnemonic _ = refl
 

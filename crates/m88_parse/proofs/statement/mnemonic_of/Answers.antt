@@ -1,12 +1,13 @@
 -- No mnemonic begins with a dot.
 use Rattle.std.specs.Prelude.{ℕ, List, [], ◌∷◌, Some, None, ◌≡◌, slice_get}
 use Rattle.std.proofs.Common.{refl, sym, ap, ◌∙◌}
+use Rattle.m88_isa.specs.Mnemonic.{text_of}
 use Rattle.m88_isa.specs.Inside.Letters.{begun_with, mnemonic_of}
 use Rattle.m88_isa.proofs.Laws.{settled}
 use Rattle.m88_parse.proofs.statement.mnemonic_of.Goals as goal
 
 dotted_none : (name : List ℕ) → slice_get name 0 ≡ Some 46 → None ≡ mnemonic_of name
-unfolding begun_with
+unfolding begun_with text_of
 dotted_none [] first = absurd cc
 dotted_none (b ∷ name) first = let dot : b ≡ 46 = cc in rw dot refl
 
