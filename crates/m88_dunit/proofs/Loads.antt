@@ -9,7 +9,7 @@ use Rattle.m88_base.proofs.Laws.{bit_of_set}
 use Rattle.m88_base.specs.RegisterSet.{register_bits}
 use Rattle.m88_base.specs.Reg.{number_of}
 use Rattle.m88_isa.proofs.Laws.{beyond_waits_not, by_test}
-use Rattle.m88_dunit.specs.Pending.{ArePending, loaded_set}
+use Rattle.m88_dunit.specs.Inside.Stages.{ArePending, loaded_set}
 use Rattle.m88_isa.specs.Bus.{loads, waits_for}
 use Rattle.m88_isa.specs.Operands.{bit_of}
 use Rattle.m88_isa.specs.declared.planned.Access.{Access}

@@ -2,7 +2,7 @@
 use Rattle.std.proofs.Common.{◌≡◌, ◌<◌, ◌++◌, List, [], ◌∷◌, length, length-append, ap, sym, ◌∙◌, subst, arith}
 use Rattle.std.proofs.lemmas.List.{length-map, map-append}
 use Rattle.std.proofs.lemmas.List.Elements.{All-map, All-push}
-use Rattle.m88_dunit.specs.Pending.{ArePending, AreStages, IsStage, staged}
+use Rattle.m88_dunit.specs.Inside.Stages.{ArePending, AreStages, IsStage, staged}
 use Rattle.m88_dunit.specs.declared.stage.Stage.{Stage}
 use Rattle.m88_isa.proofs.Laws.{told_of}
 use Rattle.m88_isa.specs.Held.{most_pending}

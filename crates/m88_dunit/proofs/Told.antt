@@ -1,6 +1,6 @@
 -- The words of the pending accesses tell them.
 use Rattle.std.proofs.Common.{◌≡◌, List, [], ◌∷◌, refl, arith, lit<}
-use Rattle.m88_dunit.specs.Pending.{ArePending}
+use Rattle.m88_dunit.specs.Inside.Stages.{ArePending}
 use Rattle.m88_isa.proofs.Laws.{told_of, valid_of}
 use Rattle.m88_isa.specs.Memory.{IsWordAccess}
 use Rattle.m88_isa.specs.Triples.{accesses_in, triples_of}

@@ -5,7 +5,8 @@ ghost use Rattle.m88_isa.specs.Bus.{listed, waits_for};
 ghost use Rattle.m88_isa.specs.Held.{most_pending};
 ghost use Rattle.m88_isa.specs.Memory.{IsWordAccess};
 ghost use Rattle.m88_isa.specs.Triples.{accesses_in, triple_or_none, triples_of};
-ghost use Rattle.m88_dunit.specs.Pending.{ArePending, CanIssue};
+ghost use Rattle.m88_dunit.specs.Pending.{CanIssue};
+ghost use Rattle.m88_dunit.specs.Inside.Stages.{ArePending};
 
 use crate::full::Full;
 use crate::stage::Stage;
@@ -27,7 +28,7 @@ pub struct DataUnit {
 impl Model for DataUnit {
     ghost use Rattle.std.specs.Prelude.{List};
     ghost use Rattle.m88_isa.specs.declared.planned.Access.{Access};
-    ghost use Rattle.m88_dunit.specs.Pending.{AreStages, staged};
+    ghost use Rattle.m88_dunit.specs.Inside.Stages.{AreStages, staged};
 
     ghost Value = { List Access };
 

@@ -4,7 +4,7 @@ ghost use Rattle.m88_isa.specs.Lanes.{IsEnable};
 ghost use Rattle.m88_isa.specs.Memory.{IsWordAccess};
 ghost use Rattle.m88_isa.specs.Triples.{is_valid_triple, triple_of};
 ghost use Rattle.m88_isa.specs.declared.planned.Access.{Access};
-ghost use Rattle.m88_dunit.specs.Pending.{loaded_set};
+ghost use Rattle.m88_dunit.specs.Inside.Stages.{loaded_set};
 
 use m88_base::{Reg, Triple};
 use m88_isa::{Access, access_in, triple_of};

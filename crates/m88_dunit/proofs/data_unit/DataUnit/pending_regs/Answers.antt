@@ -2,7 +2,7 @@
 use Rattle.std.proofs.Common.{◌≡◌, bit_or, slice_get}
 use Rattle.m88_base.specs.RegisterSet.{register_bits}
 use Rattle.m88_isa.specs.Bus.{waits_for}
-use Rattle.m88_dunit.specs.Pending.{loaded_set}
+use Rattle.m88_dunit.specs.Inside.Stages.{loaded_set}
 use Rattle.m88_dunit.proofs.Loads.{loads_by_place}
 use Rattle.m88_dunit.proofs.data_unit.DataUnit.pending_regs.Goals as goal
 

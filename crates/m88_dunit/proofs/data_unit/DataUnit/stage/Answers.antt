@@ -4,7 +4,7 @@ use Rattle.std.proofs.lemmas.Bool.Decides.{nat_tests}
 use Rattle.std.proofs.lemmas.List.{length-map}
 use Rattle.std.proofs.lemmas.Option.{slice_get_past}
 use Rattle.m88_dunit.proofs.Stages.{pending_in}
-use Rattle.m88_dunit.specs.Pending.{ArePending, staged}
+use Rattle.m88_dunit.specs.Inside.Stages.{ArePending, staged}
 use Rattle.m88_dunit.proofs.data_unit.DataUnit.stage.Goals as goal
 
 pub returns-in-Some-clause-pending : goal.returns-in-Some-clause-pending

@@ -5,7 +5,7 @@ use Rattle.std.proofs.lemmas.List.{length-map}
 use Rattle.std.proofs.lemmas.Option.{slice_get_past}
 use Rattle.m88_isa.specs.Triples.{triple_or_none}
 use Rattle.m88_dunit.proofs.Stages.{pending_in}
-use Rattle.m88_dunit.specs.Pending.{ArePending, staged}
+use Rattle.m88_dunit.specs.Inside.Stages.{ArePending, staged}
 use Rattle.m88_dunit.proofs.data_unit.DataUnit.words.Goals as goal
 
 pub returns-in-Some-clause-pending : goal.returns-in-Some-clause-pending
