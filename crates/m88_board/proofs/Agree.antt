@@ -11,7 +11,7 @@ use Rattle.m88_isa.specs.Memory.{IsWordAccess}
 use Rattle.m88_isa.specs.declared.planned.Access.{Access}
 use Rattle.m88_mem.specs.DataBus.{MemoryView, absent_of, bus_of, ready_of}
 use Rattle.m88_scoreboard.specs.Registers.{Registers, waiting_of}
-use Rattle.m88_board.specs.Board.{cells_of}
+use Rattle.m88_board.specs.Board.{cells_in}
 use Rattle.m88_board.specs.Inside.Accesses.{AnswersOldest}
 use Rattle.m88_board.specs.Kept.{AreReady, HasReadyPage, PartsAgree}
 
@@ -43,7 +43,7 @@ zero_waits_not xs file memory agree = ap (λ set. set 0) agree.waiting ∙ r0_wa
 record Answered (old : List Access) (file : Registers) (memory : MemoryView) (file' : Registers) (memory' : MemoryView)
     : Type 0 where
   pub agree : PartsAgree (drop 1 old) file' memory'
-  pub cells : after_accesses (drop 1 old) (cells_of file' memory') ≡ after_accesses old (cells_of file memory)
+  pub cells : after_accesses (drop 1 old) (cells_in file' memory') ≡ after_accesses old (cells_in file memory)
   pub bus : bus_of memory' ≡ bus_after_all (take 1 old) (bus_of memory)
 
 store_first : (x : Access) (xs : List Access) (file : Registers) (memory memory' : MemoryView) →
@@ -94,7 +94,7 @@ answers_oldest : (old new : List Access) (file : Registers) (memory : MemoryView
 answers_oldest old new file memory file' memory' done left absent image = record {
   pending = left;
   agree = subst (λ (xs : List Access). PartsAgree xs file' memory') (sym left) done.agree;
-  cells = ap (λ (xs : List Access). after_accesses xs (cells_of file' memory')) left ∙ done.cells;
+  cells = ap (λ (xs : List Access). after_accesses xs (cells_in file' memory')) left ∙ done.cells;
   bus = done.bus;
   absent = absent;
   image = image;

@@ -21,7 +21,7 @@ use Rattle.m88_board.proofs.Ending.{none_wait, registers_seen, words_seen}
 use Rattle.m88_board.proofs.Waiting.{none_wait_for_none}
 use Rattle.m88_board.specs.Board.{BoardView, completed_of, local_of, next_of, pc_of}
 use Rattle.m88_board.specs.Kept.{HasReadyPage, IsKept, lacks_word}
-use Rattle.m88_board.specs.Parts.{IsAtWord, MayBegin, begun_control, last_of, parts_of, seen_of, xip_of}
+use Rattle.m88_board.specs.Parts.{IsAtWord, MayBegin, begun_control, last_of, parts_of, seen_of_parts, xip_of}
 use Rattle.m88_board.specs.declared.parts.Parts.{Parts}
 
 -- XIP comes back from the address of the instruction that was retired last
@@ -122,8 +122,8 @@ pub seen_back : (b : BoardView) (parts : Parts) →
     is_some b.ended ≡ true →
     parts ≡ parts_of b →
     mxm_of b.control ≡ false →
-    seen_of parts ≡ record (local_of b) { ended = None }
-unfolding seen_of local_of completed_of
+    seen_of_parts parts ≡ record (local_of b) { ended = None }
+unfolding seen_of_parts local_of completed_of
 seen_back b parts kept ended are mode =
     let none = kept.drained ended in
     let regs = registers_seen b none in
@@ -132,7 +132,7 @@ seen_back b parts kept ended are mode =
     let empty = sym none in
     let bubble = ap not (sym (kept.unbubbled ended)) in
     let xip = xip_back b.slots.xip kept.slots.xip in
-    ap seen_of are
+    ap seen_of_parts are
     ∙ (λ i. record {
       completed = record {
         regs = regs i;
@@ -268,8 +268,8 @@ kept_begun parts limit file may image none =
 
 -- what is seen of it
 pub seen_begun : (parts : Parts) (limit : ℕ) (file : Registers) → file.numbers ≡ parts.regs →
-    local_of (begun_from parts limit file) ≡ seen_of parts
-unfolding local_of completed_of after_accesses seen_of
+    local_of (begun_from parts limit file) ≡ seen_of_parts parts
+unfolding local_of completed_of after_accesses seen_of_parts
 seen_begun parts limit file numbers =
     let carry = carry_right parts.carry in
     let clear = mxm_right parts.carry in

@@ -6,8 +6,8 @@ use Rattle.m88_event.specs.Choice.{Choice, faults}
 use Rattle.m88_event.specs.declared.happened.Happened.TheVariants.{Faulted}
 use Rattle.m88_event.specs.declared.record.Record.{Record}
 use Rattle.m88_board.specs.Board.{BoardView}
-use Rattle.m88_board.specs.Inside.Briefly.{faulted, happened_of}
-use Rattle.m88_board.specs.Moves.{Did, Does}
+use Rattle.m88_board.specs.Inside.Briefly.{by_fault, happened_of}
+use Rattle.m88_board.specs.Inside.Events.{Did, Does}
 use Rattle.m88_board.specs.declared.brief.Brief.{Brief}
 use Rattle.m88_board.specs.declared.brief.Brief.TheVariants as brief
 
@@ -25,8 +25,8 @@ last_is before fault =
 pub last_told : (fault : Record) (old new : BoardView) → new.records ≡ old.records ++ fault ∷ [] →
     happened_of brief.Faulted new ≡ Faulted fault
 last_told fault old new kept =
-    ap (λ (records : List Record). faulted (slice_get records (length records - 1))) kept
-    ∙ ap faulted (last_is old.records fault)
+    ap (λ (records : List Record). by_fault (slice_get records (length records - 1))) kept
+    ∙ ap by_fault (last_is old.records fault)
 
 -- what a fault does, and says by its record
 pub fault_did : (record_now fault : Record) (old new : BoardView) → new.records ≡ old.records ++ fault ∷ [] →

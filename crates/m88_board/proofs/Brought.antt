@@ -27,9 +27,9 @@ use Rattle.m88_board.proofs.Moving.{answer_chosen}
 use Rattle.m88_board.proofs.Planned.{free_of, going_of, planned_issues}
 use Rattle.m88_board.specs.Board.{BoardView, local_of}
 use Rattle.m88_board.specs.Inside.Briefly.{happened_of}
-use Rattle.m88_board.specs.Inside.Events.{Brings, TellsPlan}
-use Rattle.m88_board.specs.Inside.Turns.{IsIssuedWith, IsPlanned, IssueComesTo, choice_for}
-use Rattle.m88_board.specs.Moves.{Did, Does, IsStill, stopping}
+use Rattle.m88_board.specs.Inside.Events.{Brings, Did, Does, TellsPlan}
+use Rattle.m88_board.specs.Inside.Turns.{IsIssuedWith, IsPlanned, IssueComesTo, choice_for, stopping}
+use Rattle.m88_board.specs.Moves.{IsStill}
 use Rattle.m88_board.specs.Shown.{Leaves, ShowsFault, rest_of}
 use Rattle.m88_board.specs.Told.{MakesWordAccesses}
 use Rattle.m88_board.specs.declared.brief.Brief.{Brief}

@@ -17,7 +17,8 @@ use Rattle.m88_scoreboard.specs.Registers.{Registers, waiting_of}
 use Rattle.m88_mem.specs.DataBus.{MemoryView}
 use Rattle.m88_board.specs.Board.{BoardView, pc_of}
 use Rattle.m88_board.specs.Kept.{PartsAgree}
-use Rattle.m88_board.specs.Moves.{Did, stopping}
+use Rattle.m88_board.specs.Inside.Events.{Did}
+use Rattle.m88_board.specs.Inside.Turns.{stopping}
 
 -- whether something is pending
 pub none_pending : (xs : List Access) → is_pending xs ≡ false → xs ≡ []

@@ -5,7 +5,7 @@ use Rattle.m88_event.specs.Choice.{Choice, evicts, faults, finishes, holds, idle
 use Rattle.m88_event.specs.Local.{Local, move_by}
 use Rattle.m88_event.specs.declared.record.Record.{Record}
 use Rattle.m88_board.specs.Board.{BoardView, local_of}
-use Rattle.m88_board.specs.Moves.{Does}
+use Rattle.m88_board.specs.Inside.Events.{Does}
 
 -- what is seen of the count stays
 moved_events : (choice : Choice) (fault : Record) (l : Local) → (move_by choice fault l).events ≡ l.events

@@ -24,7 +24,7 @@ use Rattle.m88_board.proofs.Moving.{empty_of}
 use Rattle.m88_board.proofs.Walking.{drained_by}
 use Rattle.m88_board.proofs.Shown.{over_at}
 use Rattle.m88_board.proofs.Starting.{same_bytes}
-use Rattle.m88_board.specs.Board.{BoardView, cells_of, completed_of, is_idle_board, local_of}
+use Rattle.m88_board.specs.Board.{BoardView, cells_in, completed_of, is_idle_board, local_of}
 use Rattle.m88_board.specs.Kept.{IsKept, IsProgramEnd}
 use Rattle.m88_board.specs.Moves.{IsAt}
 use Rattle.m88_board.specs.Shown.{IsSettled}
@@ -57,7 +57,7 @@ pub registers_are : (p : Program) (named : ℕ → Bool) (m : Moment) (b : Board
     b.file.numbers ≡ (state p m.retired).regs
 unfolding local_of completed_of local_at completed_state after_accesses
 registers_are p named m b at none =
-    sym (ap (λ (xs : List Access). (after_accesses xs (cells_of b.file b.memory)).regs) none)
+    sym (ap (λ (xs : List Access). (after_accesses xs (cells_in b.file b.memory)).regs) none)
     ∙ ap (λ (l : Local). l.completed.regs) at.seen
 
 -- and so is memory
@@ -72,11 +72,11 @@ memory_is p named m b kept at drained =
 -- what is seen of a board with nothing pending has its registers and its words
 pub registers_seen : (b : BoardView) → b.pending ≡ [] → b.file.numbers ≡ (completed_of b).regs
 unfolding completed_of after_accesses
-registers_seen b none = sym (ap (λ (xs : List Access). (after_accesses xs (cells_of b.file b.memory)).regs) none)
+registers_seen b none = sym (ap (λ (xs : List Access). (after_accesses xs (cells_in b.file b.memory)).regs) none)
 
 pub words_seen : (b : BoardView) → b.pending ≡ [] → bus_of b.memory ≡ (completed_of b).bus
 unfolding completed_of after_accesses
-words_seen b none = sym (ap (λ (xs : List Access). (after_accesses xs (cells_of b.file b.memory)).bus) none)
+words_seen b none = sym (ap (λ (xs : List Access). (after_accesses xs (cells_in b.file b.memory)).bus) none)
 
 -- the whole, as it is seen
 pub came_to : (b : BoardView) (end : End) (regs : List ℕ) (carry : Bool) (out : List ℕ) (changed : List (ℕ × ℕ))

@@ -16,9 +16,9 @@ use Rattle.m88_mem.specs.DataBus.{MemoryView, absent_of, ready_of}
 use Rattle.m88_scoreboard.specs.Registers.{Registers, none_waits, waiting_of}
 use Rattle.m88_board.proofs.Steps.{faulted}
 use Rattle.m88_board.proofs.Stopping.{no_end}
-use Rattle.m88_board.specs.Board.{BoardView, cells_of}
+use Rattle.m88_board.specs.Board.{BoardView, cells_in}
 use Rattle.m88_board.specs.Kept.{AreReady, HasReadyPage, IsBehind, IsKept, SlotsAgree}
-use Rattle.m88_board.specs.Moves.{Does}
+use Rattle.m88_board.specs.Inside.Events.{Does}
 use Rattle.m88_board.proofs.Carry.{carry_by, mxm_by}
 use Rattle.m88_board.proofs.Going.{still_going}
 use Rattle.m88_board.proofs.Waiting.{none_wait_for_none}
@@ -27,7 +27,7 @@ use Rattle.m88_board.proofs.Waiting.{none_wait_for_none}
 pub does_fault : (b : BoardView) (file : Registers) (memory : MemoryView) (control : ControlRegisters) (slots : Pointers)
     (pending : List Access) (done : ℕ) (records : List Record) (fault : Record) →
     pending ≡ [] →
-    cells_of file memory ≡ after_accesses b.pending (cells_of b.file b.memory) →
+    cells_in file memory ≡ after_accesses b.pending (cells_in b.file b.memory) →
     absent_of memory ≡ (λ page. absent_of b.memory page && not (touches_page b.pending page)) →
     memory.image ≡ b.memory.image →
     control.psr ≡ b.control.psr →
@@ -63,7 +63,7 @@ does_fault b file memory control slots pending done records fault empty cells ab
       records = rs;
     })) (sym joined)
     (faulted fault b file memory control slots done cells
-    (ap (λ (c : Cells). c.bus) cells ∙ cells_bus b.pending (cells_of b.file b.memory))
+    (ap (λ (c : Cells). c.bus) cells ∙ cells_bus b.pending (cells_in b.file b.memory))
     absent image (carry_by b control psr) (mxm_by b control psr) same count))
 
 -- the pending transactions were finished

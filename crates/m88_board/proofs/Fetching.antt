@@ -24,10 +24,9 @@ use Rattle.m88_isa.specs.declared.planned.Access.{Access}
 use Rattle.m88_iunit.specs.Pointers.{word_behind}
 use Rattle.m88_board.specs.Board.{BoardView, completed_of, is_idle_board, local_of, pc_of}
 use Rattle.m88_board.specs.Kept.{SlotsAgree, lacks_word}
-use Rattle.m88_board.specs.Moves.{stopping}
 use Rattle.m88_board.proofs.Choosing.{at_pc}
 use Rattle.m88_board.specs.Inside.NoInstruction.{HasNoInstruction, IsFoundAt, IsFoundNext}
-use Rattle.m88_board.specs.Inside.Turns.{IsDue, IssueComesTo, choice_for}
+use Rattle.m88_board.specs.Inside.Turns.{IsDue, IssueComesTo, choice_for, stopping}
 
 -- no more may be issued
 pub idles_by : (p : Program) (b : BoardView) → is_idle_board b ≡ true →

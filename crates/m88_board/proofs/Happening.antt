@@ -17,9 +17,9 @@ use Rattle.m88_board.proofs.Leaving.{leaves_counted}
 use Rattle.m88_board.proofs.Moving.{along, answer_chosen, ended_so, fewer_answered, moved_by, precise_on, says_so}
 use Rattle.m88_board.specs.Board.{BoardView, local_of}
 use Rattle.m88_board.specs.Inside.Briefly.{happened_of}
-use Rattle.m88_board.specs.Inside.Events.{Brings}
+use Rattle.m88_board.specs.Inside.Events.{Brings, Does}
 use Rattle.m88_board.specs.Kept.{IsKept}
-use Rattle.m88_board.specs.Moves.{Does, Happens, IsMove, IsStill}
+use Rattle.m88_board.specs.Moves.{Happens, IsMove, IsStill}
 use Rattle.m88_board.specs.Shown.{Leaves}
 use Rattle.m88_board.specs.declared.brief.Brief.{Brief}
 

@@ -26,9 +26,10 @@ use Rattle.m88_mem.specs.DataBus.{MemoryView, absent_of, bus_of, ready_of}
 use Rattle.m88_scoreboard.specs.Registers.{Registers, waiting_of}
 use Rattle.m88_board.proofs.Steps.{issued}
 use Rattle.m88_board.proofs.Stopping.{no_end}
-use Rattle.m88_board.specs.Board.{BoardView, cells_of, completed_of, is_idle_board}
+use Rattle.m88_board.specs.Board.{BoardView, cells_in, completed_of, is_idle_board}
 use Rattle.m88_board.specs.Kept.{AreReady, HasReadyPage, IsKept, SlotsAgree, StaysReady}
-use Rattle.m88_board.specs.Moves.{Does, IsAdvanced}
+use Rattle.m88_board.specs.Inside.Events.{Does}
+use Rattle.m88_board.specs.Inside.Turns.{IsAdvanced}
 use Rattle.m88_board.proofs.Carry.{carried}
 use Rattle.m88_board.proofs.Going.{not_ended, one_more}
 
@@ -146,14 +147,14 @@ issued_by fault change effect b slots pending file memory control is few free on
     let seen : listed effect.accesses ≡ change_accesses change =
     ap (λ (e : Effect). listed e.accesses) is ∙ listed_recorded change.touches few in
     let register = ap (λ (e : Effect). e.reg) is in
-    let cells : cells_of file memory ≡ record { regs = with_written change.register b.file.numbers; bus = bus_of b.memory } =
+    let cells : cells_in file memory ≡ record { regs = with_written change.register b.file.numbers; bus = bus_of b.memory } =
     ap₂ (λ (r : List ℕ) (words : ℕ → ℕ). record { regs = r; bus = words })
     (numbers ∙ ap (λ w. with_written w b.file.numbers) register) bus in
     issued fault change b slots pending file memory control
     (subst (λ (e : Effect). IsAdvanced b.slots slots e.after.0 e.after.1 e.bubble) is on)
     (joined ∙ ap (λ (xs : List Access). b.pending ++ xs) seen)
     (ap (after_accesses (b.pending ++ change_accesses change)) cells
-    ∙ late_change b.pending change (cells_of b.file b.memory) (completed_of b) refl refl
+    ∙ late_change b.pending change (cells_in b.file b.memory) (completed_of b) refl refl
     (subst (λ w. IfSome w (λ w. waits_for b.pending (number_of w.0) ≡ false)) register free))
     bus absent image
     (carries ∙ ap (λ (e : Effect). e.carry) is) same_mxm

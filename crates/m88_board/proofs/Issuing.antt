@@ -25,11 +25,11 @@ use Rattle.m88_isa.specs.declared.planned.Access.{Access}
 use Rattle.m88_isa.specs.declared.planned.Effect.{Effect}
 use Rattle.m88_isa.specs.declared.planned.Plan.TheVariants.{Go, Raise, Trap}
 use Rattle.m88_isa.specs.declared.planned.Outline.{Outline}
-use Rattle.m88_board.specs.Board.{BoardView, cells_of, completed_of, pc_of, next_of}
+use Rattle.m88_board.specs.Board.{BoardView, cells_in, completed_of, pc_of, next_of}
 use Rattle.m88_board.specs.Kept.{IsKept}
 use Rattle.m88_board.proofs.Choosing.{did_by}
-use Rattle.m88_board.specs.Moves.{Did, stopping}
-use Rattle.m88_board.specs.Inside.Turns.{choice_for, meaning_at, planned_by}
+use Rattle.m88_board.specs.Inside.Events.{Did}
+use Rattle.m88_board.specs.Inside.Turns.{choice_for, meaning_at, planned_by, stopping}
 
 -- something is pending where there is an oldest
 pub pending_shown : (xs : List Access) (o : Option Access) → o ≡ slice_get xs 0 → is_some o ≡ is_pending xs
@@ -81,8 +81,8 @@ meant i inside b shown carry mxm pc next same kept valid free numbers carries mo
     here ∙ ap (λ (x : BoardView). x.slots.nip.addr) same ∙ pc_valid b valid in
     let behind : next ≡ next_of b.slots =
     behind ∙ ap (λ (x : BoardView). x.slots.fip.addr) same ∙ next_valid b valid in
-    let regs : List ℕ = (after_accesses b.pending (cells_of b.file b.memory)).regs in
-    meaning_seen i b.pending (cells_of b.file b.memory) shown carry mxm pc next free
+    let regs : List ℕ = (after_accesses b.pending (cells_in b.file b.memory)).regs in
+    meaning_seen i b.pending (cells_in b.file b.memory) shown carry mxm pc next free
     (λ r low ready. ap (λ (xs : List ℕ). slice_index xs r) numbers)
     ∙ ap (λ (k : Bool). meaning_of i regs k mxm pc next) carries
     ∙ ap (λ (k : Bool). meaning_of i regs (carry_of b.control) k pc next) modes
@@ -196,7 +196,7 @@ trap_turn i b vector free means none =
     ∙ unheld i (trapped vector c.regs c.pc) b.pending free (trap_room vector c.regs c.pc (length b.pending))
     (ap (λ (xs : List Access). is_pending xs && needs_empty (Some i) (trapped vector c.regs c.pc)) none)
     ∙ ap (λ (xs : List Access). turn_choice
-    (trapped vector (after_accesses xs (cells_of b.file b.memory)).regs (pc_of b.slots))) none
+    (trapped vector (after_accesses xs (cells_in b.file b.memory)).regs (pc_of b.slots))) none
 
 -- an instruction that goes on has an effect, and its accesses are counted
 pub record IsGoing (i : Instr) (b : BoardView) (effect : Effect) : Type 0 where

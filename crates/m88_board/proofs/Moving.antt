@@ -18,7 +18,8 @@ use Rattle.m88_isa.specs.declared.planned.Access.{Access}
 use Rattle.m88_mem.specs.DataBus.{absent_of}
 use Rattle.m88_board.specs.Board.{BoardView, completed_of, local_of}
 use Rattle.m88_isa.specs.ImageProgram.{IsProgramOf}
-use Rattle.m88_board.specs.Moves.{Did, Does, IsAt, IsMove, end_after}
+use Rattle.m88_board.specs.Moves.{IsAt, IsMove, end_after}
+use Rattle.m88_board.specs.Inside.Events.{Did, Does}
 
 -- a choice that was made and counted is the move
 pub counted : (p : Program) (letter : Letter) (old middle : BoardView) (h : Happened) →

@@ -9,7 +9,8 @@ use Rattle.m88_isa.specs.Address.{after_bytes}
 use Rattle.m88_iunit.specs.Pointers.{Pointers}
 use Rattle.m88_board.proofs.Steps.{put_out}
 use Rattle.m88_board.specs.Board.{BoardView, next_of}
-use Rattle.m88_board.specs.Moves.{Did, Does, IsAdvanced}
+use Rattle.m88_board.specs.Inside.Events.{Did, Does}
+use Rattle.m88_board.specs.Inside.Turns.{IsAdvanced}
 use Rattle.m88_board.proofs.Carry.{carry_by, mxm_by}
 
 -- a byte is put out for a trap

@@ -30,7 +30,7 @@ use Rattle.m88_board.proofs.OfHistory.{same_turn, zero_is}
 use Rattle.m88_board.proofs.ReadBack.{carry_back, mxm_back, slot_back, word_back}
 use Rattle.m88_board.proofs.Waiting.{none_wait_for_none}
 use Rattle.m88_board.specs.Board.{BoardView, completed_of, local_of, next_of, pc_of}
-use Rattle.m88_board.specs.Contexts.{Stands, StandsFor, context_of}
+use Rattle.m88_board.specs.Contexts.{StandsFor, StandsForSome, context_of}
 use Rattle.m88_board.specs.Kept.{EndsSo, HasReadyPage, IsBehind, IsKept, IsProgramEnd, SlotsAgree, turn_by}
 use Rattle.m88_board.specs.Moves.{IsAt}
 use Rattle.m88_board.specs.declared.context.Context.{Context}
@@ -331,7 +331,7 @@ same_board c b from = λ i. record {
 }
 
 -- so it is a board
-pub kept_from : (c : Context) (b : BoardView) → Stands c → ComesFrom c b → IsKept b
+pub kept_from : (c : Context) (b : BoardView) → StandsForSome c → ComesFrom c b → IsKept b
 kept_from c b stands from =
     subst IsKept (sym (same_board c b from))
     (kept_resumed stands.0 stands.1 stands.2 c b.file b.control stands.3 from.are)

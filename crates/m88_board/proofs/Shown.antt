@@ -21,7 +21,7 @@ use Rattle.m88_mem.specs.DataBus.{bus_of, ready_of}
 use Rattle.m88_scoreboard.specs.Registers.{waiting_of}
 use Rattle.m88_scoreboard.specs.declared.busy.Busy.{Busy}
 use Rattle.m88_board.proofs.Records.{fip_is, nip_is}
-use Rattle.m88_board.specs.Board.{BoardView, cells_of, completed_of, is_idle_board, local_of}
+use Rattle.m88_board.specs.Board.{BoardView, cells_in, completed_of, is_idle_board, local_of}
 use Rattle.m88_board.specs.Glances.{glance_at, glance_of}
 use Rattle.m88_board.specs.Kept.{AreReady, IsKept, SlotsAgree}
 use Rattle.m88_board.specs.Moves.{IsAt}
@@ -109,7 +109,7 @@ value_stays xs c r h = by_test (r == 0)
 value_seen : (b : BoardView) (r : ℕ) → waits_for b.pending r ≡ false →
     slice_index b.file.numbers r ≡ slice_index (completed_of b).regs r
 unfolding completed_of
-value_seen b r h = sym (value_stays b.pending (cells_of b.file b.memory) r h)
+value_seen b r h = sym (value_stays b.pending (cells_in b.file b.memory) r h)
 
 by_waiting : (pending : List Access) (regs : List ℕ) (r : ℕ) (t : Bool) → waits_for pending r ≡ t →
     register_seen pending regs r ≡ (if t then None else Some (slice_index regs r))

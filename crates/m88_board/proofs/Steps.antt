@@ -16,8 +16,9 @@ use Rattle.m88_isa.specs.declared.planned.Access.{Access}
 use Rattle.m88_iunit.specs.Pointers.{Pointers, word_behind}
 use Rattle.m88_mem.specs.DataBus.{MemoryView, absent_of, bus_of}
 use Rattle.m88_scoreboard.specs.Registers.{Registers}
-use Rattle.m88_board.specs.Board.{BoardView, cells_of, completed_of, local_of, next_of, pc_of}
-use Rattle.m88_board.specs.Moves.{Does, IsAdvanced}
+use Rattle.m88_board.specs.Board.{BoardView, cells_in, completed_of, local_of, next_of, pc_of}
+use Rattle.m88_board.specs.Inside.Events.{Does}
+use Rattle.m88_board.specs.Inside.Turns.{IsAdvanced}
 
 -- FIP, which is always valid, is next where a bubble is passed over
 pc_passed : (slots : Pointers) (e : Bool) → slots.nip.v ≡ false → slots.fip.v ≡ true →
@@ -41,12 +42,12 @@ unfolding local_of completed_of
 passed fault b slots e bubble valid is = record {
   moved = λ i. record {
     completed = record {
-      regs = (after_accesses b.pending (cells_of b.file b.memory)).regs;
+      regs = (after_accesses b.pending (cells_in b.file b.memory)).regs;
       carry = carry_of b.control;
       mxm = mxm_of b.control;
       pc = (ap pc_of is ∙ pc_passed b.slots e bubble valid) i;
       next = (ap next_of is ∙ next_passed b.slots e bubble valid) i;
-      bus = (after_accesses b.pending (cells_of b.file b.memory)).bus;
+      bus = (after_accesses b.pending (cells_in b.file b.memory)).bus;
       out = b.out;
     };
     bus = bus_of b.memory;
@@ -67,7 +68,7 @@ passed fault b slots e bubble valid is = record {
 -- the oldest transaction is answered
 pub replied : (fault : Record) (b : BoardView) (pending : List Access) (file : Registers) (memory : MemoryView) →
     pending ≡ drop 1 b.pending →
-    after_accesses pending (cells_of file memory) ≡ after_accesses b.pending (cells_of b.file b.memory) →
+    after_accesses pending (cells_in file memory) ≡ after_accesses b.pending (cells_in b.file b.memory) →
     bus_of memory ≡ bus_after_all (take 1 b.pending) (bus_of b.memory) →
     absent_of memory ≡ absent_of b.memory →
     memory.image ≡ b.memory.image →
@@ -108,7 +109,7 @@ replied fault b pending file memory left cells bus absent image = record {
 -- the pending transactions are finished by the monitor, and the record stays
 pub faulted : (fault : Record) (b : BoardView) (file : Registers) (memory : MemoryView) (control : ControlRegisters)
     (slots : Pointers) (done : ℕ) →
-    cells_of file memory ≡ after_accesses b.pending (cells_of b.file b.memory) →
+    cells_in file memory ≡ after_accesses b.pending (cells_in b.file b.memory) →
     bus_of memory ≡ bus_after_all b.pending (bus_of b.memory) →
     absent_of memory ≡ (λ page. absent_of b.memory page && not (touches_page b.pending page)) →
     memory.image ≡ b.memory.image →
@@ -195,12 +196,12 @@ unfolding local_of completed_of
 finished fault stop b control end by carry mxm = record {
   moved = λ i. record {
     completed = record {
-      regs = (after_accesses b.pending (cells_of b.file b.memory)).regs;
+      regs = (after_accesses b.pending (cells_in b.file b.memory)).regs;
       carry = carry i;
       mxm = mxm i;
       pc = pc_of b.slots;
       next = next_of b.slots;
-      bus = (after_accesses b.pending (cells_of b.file b.memory)).bus;
+      bus = (after_accesses b.pending (cells_in b.file b.memory)).bus;
       out = b.out;
     };
     bus = bus_of b.memory;
@@ -233,12 +234,12 @@ unfolding local_of completed_of after_turn
 put_out fault byte b slots control on carry mxm = record {
   moved = λ i. record {
     completed = record {
-      regs = (after_accesses b.pending (cells_of b.file b.memory)).regs;
+      regs = (after_accesses b.pending (cells_in b.file b.memory)).regs;
       carry = carry i;
       mxm = mxm i;
       pc = on.here i;
       next = on.behind i;
-      bus = (after_accesses b.pending (cells_of b.file b.memory)).bus;
+      bus = (after_accesses b.pending (cells_in b.file b.memory)).bus;
       out = b.out ++ byte ∷ [];
     };
     bus = bus_of b.memory;
@@ -261,7 +262,7 @@ pub issued : (fault : Record) (change : Change) (b : BoardView) (slots : Pointer
     (memory : MemoryView) (control : ControlRegisters) →
     IsAdvanced b.slots slots change.after.0 change.after.1 change.bubble →
     pending ≡ b.pending ++ change_accesses change →
-    after_accesses (b.pending ++ change_accesses change) (cells_of file memory) ≡ cells_after change (completed_of b) →
+    after_accesses (b.pending ++ change_accesses change) (cells_in file memory) ≡ cells_after change (completed_of b) →
     bus_of memory ≡ bus_of b.memory →
     absent_of memory ≡ absent_of b.memory →
     memory.image ≡ b.memory.image →
@@ -277,8 +278,8 @@ pub issued : (fault : Record) (change : Change) (b : BoardView) (slots : Pointer
     })
 unfolding local_of completed_of after_turn
 issued fault change b slots pending file memory control on joined cells bus absent image carry mxm =
-    let all : after_accesses pending (cells_of file memory) ≡ cells_after change (completed_of b) =
-    ap (λ (xs : List Access). after_accesses xs (cells_of file memory)) joined ∙ cells in
+    let all : after_accesses pending (cells_in file memory) ≡ cells_after change (completed_of b) =
+    ap (λ (xs : List Access). after_accesses xs (cells_in file memory)) joined ∙ cells in
     record {
       moved = λ i. record {
         completed = record {

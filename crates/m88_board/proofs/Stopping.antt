@@ -13,7 +13,7 @@ use Rattle.m88_isa.specs.History.{Completed}
 use Rattle.m88_isa.specs.ImageProgram.{IsProgramOf}
 use Rattle.m88_isa.specs.Machine.{Program, Stop, Turn, changes, outputs, stops}
 use Rattle.m88_mem.specs.DataBus.{MemoryView, bus_of}
-use Rattle.m88_board.specs.Board.{BoardView, cells_of, completed_of, local_of, next_of, pc_of}
+use Rattle.m88_board.specs.Board.{BoardView, cells_in, completed_of, local_of, next_of, pc_of}
 use Rattle.m88_board.specs.Kept.{EndsSo, turn_by}
 use Rattle.m88_board.specs.Inside.Turns.{ComesToEnd}
 
@@ -39,12 +39,12 @@ same_state : (b : BoardView) (control : ControlRegisters) (end : End) → carry_
     completed_of (record b { control = control; ended = Some end }) ≡ completed_of b
 unfolding completed_of
 same_state b control end carry mxm = λ i. record {
-  regs = (after_accesses b.pending (cells_of b.file b.memory)).regs;
+  regs = (after_accesses b.pending (cells_in b.file b.memory)).regs;
   carry = carry i;
   mxm = mxm i;
   pc = pc_of b.slots;
   next = next_of b.slots;
-  bus = (after_accesses b.pending (cells_of b.file b.memory)).bus;
+  bus = (after_accesses b.pending (cells_in b.file b.memory)).bus;
   out = b.out;
 }
 

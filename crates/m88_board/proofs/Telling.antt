@@ -19,7 +19,9 @@ use Rattle.m88_isa.specs.declared.planned.Plan.TheVariants.{Go}
 use Rattle.m88_board.specs.Board.{BoardView, completed_of, local_of, pc_of}
 use Rattle.m88_board.specs.Inside.Briefly.{happened_of}
 use Rattle.m88_board.specs.declared.brief.Brief.{Brief}
-use Rattle.m88_board.specs.Moves.{Did, IsAt, stopping}
+use Rattle.m88_board.specs.Moves.{IsAt}
+use Rattle.m88_board.specs.Inside.Events.{Did}
+use Rattle.m88_board.specs.Inside.Turns.{stopping}
 use Rattle.m88_board.specs.Told.{IsTold, IsWordOf, WentOn}
 use Rattle.m88_board.specs.declared.told.Told.{Told}
 

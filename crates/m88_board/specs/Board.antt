@@ -36,8 +36,8 @@ pub record BoardView : Type 0 where
   pub begun : Bool
 
 -- the registers and the words of a register file and a memory
-abbrev pub cells_of : Registers → MemoryView → Cells
-cells_of file memory = record { regs = file.numbers; bus = bus_of memory }
+abbrev pub cells_in : Registers → MemoryView → Cells
+cells_in file memory = record { regs = file.numbers; bus = bus_of memory }
 
 -- the address of the next instruction that isn't passed over
 abbrev pub pc_of : Pointers → ℕ
@@ -50,12 +50,12 @@ next_of slots = if slots.nip.v then slots.fip.addr else after_bytes slots.fip.ad
 -- the state once the pending transactions are done
 unfoldable pub completed_of : BoardView → Completed
 completed_of b = record {
-  regs = (after_accesses b.pending (cells_of b.file b.memory)).regs;
+  regs = (after_accesses b.pending (cells_in b.file b.memory)).regs;
   carry = carry_of b.control;
   mxm = mxm_of b.control;
   pc = pc_of b.slots;
   next = next_of b.slots;
-  bus = (after_accesses b.pending (cells_of b.file b.memory)).bus;
+  bus = (after_accesses b.pending (cells_in b.file b.memory)).bus;
   out = b.out;
 }
 

@@ -64,8 +64,8 @@ pub record StandsFor (p : Program) (named : ℕ → Bool) (m : Moment) (c : Cont
   pub counted : c.book.events ≤ most_events
 
 -- a context stands for a moment of some program
-abbrev pub Stands : Context → Type 0
-Stands c = (p : Program) × (named : ℕ → Bool) × (m : Moment) × StandsFor p named m c
+abbrev pub StandsForSome : Context → Type 0
+StandsForSome c = (p : Program) × (named : ℕ → Bool) × (m : Moment) × StandsFor p named m c
 
 -- the words of the program that a board runs, where nothing is pending: its registers, its own status, and the words of
 -- the instruction pointers

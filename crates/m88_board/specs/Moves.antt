@@ -1,37 +1,25 @@
 -- What an event makes of a board.
-use Rattle.std.specs.Prelude.{ℕ, Bool, not, List, [], ◌∷◌, Option, Some, Result, Ok, IfOk, OnErr, ◌≡◌, ◌≤◌, ◌+◌, ◌-◌, length, if◌then◌else◌}
+use Rattle.std.specs.Prelude.{ℕ, Bool, List, [], ◌∷◌, Option, Some, Result, Ok, IfOk, OnErr, ◌≡◌, ◌≤◌, ◌+◌, ◌-◌, length}
 use Rattle.m88_base.specs.Pages.{every_page}
 use Rattle.m88_base.specs.declared.failing.NoMemory.{NoMemory}
 use Rattle.m88_ctrl.specs.ControlRegisters.{mxm_of}
-use Rattle.m88_event.specs.Choice.{Choice, ServesOrEnds, finishes, holds, said}
-use Rattle.m88_event.specs.Local.{local_at, move, move_by, said_by}
+use Rattle.m88_event.specs.Choice.{ServesOrEnds}
+use Rattle.m88_event.specs.Local.{local_at, move, said_by}
 use Rattle.m88_event.specs.Past.{HasPast}
-use Rattle.m88_event.specs.Shadow.{retired_pointer}
 use Rattle.m88_event.specs.Timeline.{DoneWereMade, Moment, after_letter, said_at}
 use Rattle.m88_event.specs.declared.happened.End.{End}
 use Rattle.m88_event.specs.declared.happened.Happened.{Happened}
 use Rattle.m88_event.specs.declared.happened.Happened.TheVariants as happened
 use Rattle.m88_event.specs.declared.letter.Letter.{Letter}
 use Rattle.m88_event.specs.declared.letter.Letter.TheVariants.{Answer, Evict}
-use Rattle.m88_event.specs.declared.record.Record.{Record}
-use Rattle.m88_isa.specs.Held.{is_pending, sync}
-use Rattle.m88_iunit.specs.Pointers.{Pointers}
 use Rattle.m88_mem.specs.DataBus.{absent_of, bus_of, ready_of}
-use Rattle.m88_isa.specs.Machine.{Program, Stop}
-use Rattle.m88_isa.specs.declared.planned.Access.{Access}
-use Rattle.m88_board.specs.Board.{BoardView, local_of, next_of, pc_of}
+use Rattle.m88_isa.specs.Machine.{Program}
+use Rattle.m88_board.specs.Board.{BoardView, local_of}
 use Rattle.m88_board.specs.Kept.{IsKept}
 use Rattle.m88_board.specs.Shown.{Leaves}
 use Rattle.m88_board.specs.Glances.{Saw, glance_at, glances_along}
 use Rattle.m88_board.specs.declared.glance.Glance.{Glance}
 use Rattle.m88_isa.specs.ImageProgram.{IsProgramOf}
-
--- the slots after an instruction that goes on: it is XIP, and these are next
-pub record IsAdvanced (old new : Pointers) (pc next : ℕ) (bubble : Bool) : Type 0 where
-  pub xip : new.xip ≡ retired_pointer (pc_of old)
-  pub here : pc_of new ≡ pc
-  pub behind : next_of new ≡ next
-  pub bubble_is : not new.nip.v ≡ bubble
 
 -- the same limit, MXM, choice of absent pages, image and beginning
 pub record IsSameRun (old new : BoardView) : Type 0 where
@@ -40,17 +28,6 @@ pub record IsSameRun (old new : BoardView) : Type 0 where
   pub named : new.named ≡ old.named
   pub image : new.memory.image ≡ old.memory.image
   pub begun : new.begun ≡ old.begun
-
--- a board did what a choice makes of it, but for the count of events
-pub record Does (choice : Choice) (fault : Record) (old new : BoardView) : Type 0 where
-  pub moved : local_of new ≡ move_by choice fault (local_of old)
-  pub same : IsSameRun old new
-
--- and says so
-pub record Did (choice : Choice) (fault : Record) (old : BoardView) (happened : Happened)
-    (new : BoardView) : Type 0 where
-  pub says : happened ≡ said choice fault
-  pub does : Does choice fault old new
 
 -- an event of a letter: the move of what is seen, and what it says
 pub record IsMove (p : Program) (letter : Letter) (old : BoardView) (happened : Happened)
@@ -98,10 +75,6 @@ IsStill _ = ⊥
 abbrev pub end_after : Happened → Option End → Option End
 end_after (happened.Ended end) before = Some end
 end_after _ before = before
-
--- what raises waits for an empty data unit, and then ends the program
-abbrev pub stopping : Stop → List Access → Choice
-stopping stop pending = if is_pending pending then holds sync else finishes stop
 
 -- an event of a letter: the move of what is seen; at a moment of a history the next one of the timeline, and what that
 -- says; a trap is served and the program ends only with nothing pending; how the program ended then; one event more;

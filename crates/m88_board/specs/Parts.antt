@@ -61,8 +61,8 @@ abbrev pub begun_control : Bool → ControlRegisters
 begun_control carry = record (at_start false) { psr = with_carry carry (at_start false).psr }
 
 -- what is seen of the board that begins from parts: nothing is pending, no mark is set, and MXM is clear
-unfoldable pub seen_of : Parts → Local
-seen_of parts = record {
+unfoldable pub seen_of_parts : Parts → Local
+seen_of_parts parts = record {
   completed = record {
     regs = parts.regs;
     carry = parts.carry;

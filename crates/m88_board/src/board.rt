@@ -22,10 +22,10 @@ ghost use Rattle.m88_isa.specs.ImageProgram.{IsProgramOf};
 ghost use Rattle.std.specs.Int.{bit_at};
 ghost use Rattle.m88_iunit.specs.Pointers.{resumed};
 ghost use Rattle.m88_board.specs.Kept.{IsKept, epsr_of, most_events, most_retired};
-ghost use Rattle.m88_board.specs.Moves.{IsAt, stopping};
+ghost use Rattle.m88_board.specs.Moves.{IsAt};
 ghost use Rattle.m88_board.specs.Shown.{IsRecordOf};
 ghost use Rattle.m88_board.specs.Inside.Events.{Brings, BringsOrStays, EvictsAll};
-ghost use Rattle.m88_board.specs.Inside.Turns.{CanMakeAccesses, ComesToEnd, IsDue, IsFetched, IsIssuedWith, IssueComesTo};
+ghost use Rattle.m88_board.specs.Inside.Turns.{CanMakeAccesses, ComesToEnd, IsDue, IsFetched, IsIssuedWith, IssueComesTo, stopping};
 
 use crate::accesses::{complete, prepare, put_in, write};
 use crate::brief::Brief;

@@ -4,7 +4,7 @@ ghost use Rattle.std.specs.Prelude.{◌≡◌, ◌%◌, true, false};
 ghost use Rattle.m88_isa.specs.Address.{after_bytes};
 ghost use Rattle.m88_isa.specs.Flow.{FlowFits};
 ghost use Rattle.m88_board.specs.Kept.{SlotsAgree, lacks_word};
-ghost use Rattle.m88_board.specs.Moves.{IsAdvanced};
+ghost use Rattle.m88_board.specs.Inside.Turns.{IsAdvanced};
 
 use m88_iunit::InstrUnit;
 use m88_mem::Memory;

@@ -37,7 +37,7 @@ use Rattle.m88_event.specs.declared.outcome.Outcome.{Outcome}
 use Rattle.m88_board.specs.Board.{BoardView, completed_of, local_of, next_of, pc_of}
 use Rattle.m88_board.specs.Kept.{EndsSo, IsKept, turn_by}
 use Rattle.m88_board.specs.Moves.{end_after}
-use Rattle.m88_board.specs.Parts.{MayBegin, parts_of, seen_of}
+use Rattle.m88_board.specs.Parts.{MayBegin, parts_of, seen_of_parts}
 use Rattle.m88_board.specs.declared.parts.Parts.{Parts}
 use Rattle.m88_emul.proofs.Following.{NoAid, none_new, stays}
 use Rattle.m88_emul.proofs.Weighing.{still_lives}
@@ -310,10 +310,10 @@ may_go_on parts regs memory limit may early first =
     }
 
 -- and looks as software left it
-pub goes_on_so : (parts : Parts) (regs : List ℕ) (memory : MemoryView) (aid : Aid) (l : Local) → seen_of parts ≡ record l { ended = None } →
+pub goes_on_so : (parts : Parts) (regs : List ℕ) (memory : MemoryView) (aid : Aid) (l : Local) → seen_of_parts parts ≡ record l { ended = None } →
     IsAided aid parts.regs regs parts.memory memory →
-    seen_of (one_more (record parts { regs = regs; memory = memory })) ≡ completed_by aid l
-unfolding seen_of
+    seen_of_parts (one_more (record parts { regs = regs; memory = memory })) ≡ completed_by aid l
+unfolding seen_of_parts
 goes_on_so parts regs memory aid l seen is =
     let regs_is : regs ≡ with_all aid.writes l.completed.regs = is.regs ∙ ap (λ (x : Local). with_all aid.writes x.completed.regs) seen in
     let words : bus_of memory ≡ bus_after_all (map access_of aid.stores) l.completed.bus =
@@ -386,8 +386,8 @@ parts_regs parts b e = ap (λ (x : Parts). x.regs) e
 pub parts_bytes : (parts : Parts) (b : BoardView) → parts ≡ parts_of b → byte_seen (bus_of parts.memory) ≡ byte_seen (bus_of b.memory)
 parts_bytes parts b e = ap (λ (x : Parts). byte_seen (bus_of x.memory)) e
 
-pub begun_clear : (b : BoardView) (parts : Parts) → local_of b ≡ seen_of parts → mxm_of b.control ≡ false
-unfolding local_of completed_of seen_of
+pub begun_clear : (b : BoardView) (parts : Parts) → local_of b ≡ seen_of_parts parts → mxm_of b.control ≡ false
+unfolding local_of completed_of seen_of_parts
 begun_clear b parts e = ap (λ (l : Local). l.completed.mxm) e
 
 no_end : (end : Option End) → is_some end ≡ false → end ≡ None

@@ -12,7 +12,7 @@ use Rattle.m88_event.specs.Timeline.{Moment, after_letter, is_over}
 use Rattle.m88_event.specs.declared.letter.Letter.{Letter}
 use Rattle.m88_mem.specs.Marks.{absent_in}
 use Rattle.m88_board.specs.Board.{BoardView}
-use Rattle.m88_board.specs.Contexts.{IsRunOf, Stands, StandsFor}
+use Rattle.m88_board.specs.Contexts.{IsRunOf, StandsFor, StandsForSome}
 use Rattle.m88_board.specs.Moves.{IsAt, IsSameRun}
 use Rattle.m88_board.specs.declared.context.Context.{Context}
 use Rattle.m88_tasks.specs.Shared.{Group, moments_then, over_at}
@@ -133,7 +133,7 @@ pub place_some : (g : Group) (moments : ℕ → Moment) (current : ℕ) (v : Pro
     to ≢ v.current → slice_get v.contexts to ≡ Some None → ⊥
 place_some g moments current v to are apart h = apart (are.places to None h ∙ sym are.number)
 
-pub place_stands : (v : ProgramsView) (to : ℕ) (c : Context) → AreSomePrograms v → slice_get v.contexts to ≡ Some (Some c) → Stands c
+pub place_stands : (v : ProgramsView) (to : ℕ) (c : Context) → AreSomePrograms v → slice_get v.contexts to ≡ Some (Some c) → StandsForSome c
 place_stands v to c some h =
     let place = some.are.places to (Some c) h in
     (some.group.programs to, some.group.named, some.moments to, place.1)

@@ -9,7 +9,7 @@ use Rattle.m88_isa.specs.declared.planned.Access.{Access}
 use Rattle.m88_isa.specs.declared.planned.Accesses.{Accesses}
 use Rattle.m88_mem.specs.DataBus.{MemoryView, absent_of, bus_of}
 use Rattle.m88_scoreboard.specs.Registers.{Registers, none_waits, waiting_of}
-use Rattle.m88_board.specs.Board.{cells_of}
+use Rattle.m88_board.specs.Board.{cells_in}
 use Rattle.m88_board.specs.Kept.{PartsAgree, StaysReady}
 use Rattle.m88_board.specs.Shown.{IsRecordOf, ShowsFault, rest_of}
 
@@ -33,7 +33,7 @@ pub record AnswersOldest (old : List Access) (file : Registers) (memory : Memory
     (file' : Registers) (memory' : MemoryView) : Type 0 where
   pub pending : new ≡ drop 1 old
   pub agree : PartsAgree new file' memory'
-  pub cells : after_accesses new (cells_of file' memory') ≡ after_accesses old (cells_of file memory)
+  pub cells : after_accesses new (cells_in file' memory') ≡ after_accesses old (cells_in file memory)
   pub bus : bus_of memory' ≡ bus_after_all (take 1 old) (bus_of memory)
   pub absent : absent_of memory' ≡ absent_of memory
   pub image : memory'.image ≡ memory.image
@@ -45,7 +45,7 @@ pub record FinishesAll (fault : Record) (old : List Access) (control : ControlRe
     (memory : MemoryView) (done : ℕ) (restart : Restart) (new : List Access) (control' : ControlRegisters)
     (file' : Registers) (memory' : MemoryView) : Type 0 where
   pub pending : new ≡ []
-  pub cells : cells_of file' memory' ≡ after_accesses old (cells_of file memory)
+  pub cells : cells_in file' memory' ≡ after_accesses old (cells_in file memory)
   pub waiting : waiting_of file' ≡ none_waits
   pub absent : absent_of memory' ≡ (λ page. absent_of memory page && not (touches_page old page))
   pub image : memory'.image ≡ memory.image

@@ -2,17 +2,19 @@
 use Rattle.std.specs.Prelude.{ℕ, List, Option, Bool, true, Result, Ok, Err, IfOk, ◌≡◌}
 use Rattle.m88_base.specs.Image.{byte_at}
 use Rattle.m88_base.specs.declared.failing.NoMemory.{NoMemory}
-use Rattle.m88_event.specs.Choice.{issues}
-use Rattle.m88_event.specs.Local.{choice_by, record_by}
+use Rattle.m88_event.specs.Choice.{Choice, issues, said}
+use Rattle.m88_event.specs.Local.{choice_by, move_by, record_by}
 use Rattle.m88_event.specs.Timeline.{Moment}
+use Rattle.m88_event.specs.declared.happened.Happened.{Happened}
 use Rattle.m88_event.specs.declared.letter.Letter.{Letter}
 use Rattle.m88_event.specs.declared.letter.Letter.TheVariants.{Issue}
+use Rattle.m88_event.specs.declared.record.Record.{Record}
 use Rattle.m88_isa.specs.Effect.{Change, recorded_change}
 use Rattle.m88_isa.specs.ImageProgram.{IsProgramOf}
 use Rattle.m88_isa.specs.Machine.{Program, four_bytes}
 use Rattle.m88_isa.specs.declared.planned.Plan.TheVariants.{Go}
 use Rattle.m88_board.specs.Board.{BoardView, local_of, pc_of}
-use Rattle.m88_board.specs.Moves.{Did, Happens, IsAt, IsEvicted, IsSameRun, IsStep, IsStill}
+use Rattle.m88_board.specs.Moves.{Happens, IsAt, IsEvicted, IsSameRun, IsStep, IsStill}
 use Rattle.m88_board.specs.Shown.{Leaves}
 use Rattle.m88_board.specs.Told.{IsTold, IsWordOf, MakesWordAccesses, WentOn}
 use Rattle.m88_board.specs.Inside.Briefly.{happened_of}
@@ -20,6 +22,17 @@ use Rattle.m88_board.specs.declared.glance.Glance.{Glance}
 use Rattle.m88_board.specs.declared.brief.Brief.{Brief}
 use Rattle.m88_board.specs.declared.brief.Brief.TheVariants.{Evicted}
 use Rattle.m88_board.specs.declared.told.Told.{Told}
+
+-- a board did what a choice makes of it, but for the count of events
+pub record Does (choice : Choice) (fault : Record) (old new : BoardView) : Type 0 where
+  pub moved : local_of new ≡ move_by choice fault (local_of old)
+  pub same : IsSameRun old new
+
+-- and says so
+pub record Did (choice : Choice) (fault : Record) (old : BoardView) (happened : Happened)
+    (new : BoardView) : Type 0 where
+  pub says : happened ≡ said choice fault
+  pub does : Does choice fault old new
 
 -- what the event of a letter brings, but for the count of events: by each program of its image the board did what the
 -- letter chooses, and says so; it is the same run, and no event is counted yet; where nothing is to be done the board

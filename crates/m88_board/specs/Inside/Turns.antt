@@ -1,17 +1,18 @@
 -- What the next instruction comes to in its turn.
 use Rattle.std.specs.Int.{bit_at}
-use Rattle.std.specs.Prelude.{true, false, [], IfSome, None, Option, Some, ◌≡◌, ◌<◌, ◌≤◌, ◌+◌, ◌++◌, length}
+use Rattle.std.specs.Prelude.{ℕ, Bool, not, true, false, List, [], IfSome, None, Option, Some, ◌≡◌, ◌<◌, ◌≤◌, ◌+◌, ◌++◌, length, if◌then◌else◌}
 use Rattle.m88_base.specs.Reg.{number_of}
 use Rattle.m88_ctrl.specs.ControlRegisters.{carry_of}
 use Rattle.m88_base.specs.Pages.{page_number}
-use Rattle.m88_event.specs.Choice.{Choice, end_by, finishes, issues, next_choice}
+use Rattle.m88_event.specs.Choice.{Choice, end_by, finishes, holds, issues, next_choice}
 use Rattle.m88_event.specs.Local.{choice_by}
+use Rattle.m88_event.specs.Shadow.{retired_pointer}
 use Rattle.m88_event.specs.declared.happened.End.{End}
 use Rattle.m88_event.specs.declared.letter.Letter.TheVariants.{Issue}
 use Rattle.m88_dunit.specs.Pending.{CanIssue}
 use Rattle.m88_isa.specs.Bus.{LoadApart, listed, waits_for}
 use Rattle.m88_isa.specs.Flow.{FlowFits}
-use Rattle.m88_isa.specs.Held.{busy_register, held, most_pending}
+use Rattle.m88_isa.specs.Held.{busy_register, held, is_pending, most_pending, sync}
 use Rattle.m88_isa.specs.Instr.{IsValid}
 use Rattle.m88_isa.specs.Memory.{AreWordAccesses}
 use Rattle.m88_isa.specs.Operands.{access_count_of, writes_of}
@@ -20,12 +21,14 @@ use Rattle.m88_isa.specs.Effect.{Change, FlowsToWords, IfGo, MakesAccesses, Mean
 use Rattle.m88_isa.specs.ImageProgram.{IsProgramOf}
 use Rattle.m88_isa.specs.Machine.{Program, Stop, Turn, executed}
 use Rattle.m88_isa.specs.declared.instr.Instr.{Instr}
+use Rattle.m88_isa.specs.declared.planned.Access.{Access}
 use Rattle.m88_isa.specs.declared.planned.Accesses.{Accesses}
 use Rattle.m88_isa.specs.declared.planned.Effect.{Effect}
 use Rattle.m88_isa.specs.declared.planned.Plan.{Plan}
 use Rattle.m88_isa.specs.declared.planned.Plan.TheVariants.{Go}
 use Rattle.m88_isa.specs.declared.planned.Outline.{Outline}
-use Rattle.m88_board.specs.Board.{BoardView, completed_of, is_idle_board, local_of}
+use Rattle.m88_iunit.specs.Pointers.{Pointers}
+use Rattle.m88_board.specs.Board.{BoardView, completed_of, is_idle_board, local_of, next_of, pc_of}
 use Rattle.m88_board.specs.Kept.{IsProgramEnd}
 
 -- what an instruction means at a state
@@ -39,6 +42,10 @@ turn_of i c = executed i c.regs c.carry c.mxm c.pc c.next
 -- the choice that it comes to in its turn on a board: the pending transactions hold it, or nothing does
 abbrev pub choice_for : Option Instr → BoardView → Choice
 choice_for i b = next_choice (held i (turn_of i (completed_of b)) b.pending) (turn_of i (completed_of b))
+
+-- what raises waits for an empty data unit, and then ends the program
+abbrev pub stopping : Stop → List Access → Choice
+stopping stop pending = if is_pending pending then holds sync else finishes stop
 
 -- the letter `i` comes to a choice on a board, by each program that its image holds
 abbrev pub IssueComesTo : Choice → BoardView → Type 0
@@ -62,6 +69,13 @@ pub record IsDue (b : BoardView) : Type 0 where
 pub record IsFetched (b : BoardView) : Type 0 where
   pub due : IsDue b
   pub fetched : b.slots.nip.e ≡ false
+
+-- the slots after an instruction that goes on: it is XIP, and these are next
+pub record IsAdvanced (old new : Pointers) (pc next : ℕ) (bubble : Bool) : Type 0 where
+  pub xip : new.xip ≡ retired_pointer (pc_of old)
+  pub here : pc_of new ≡ pc
+  pub behind : next_of new ≡ next
+  pub bubble_is : not new.nip.v ≡ bubble
 
 -- this instruction has its turn
 pub record HasTurn (i : Instr) (b : BoardView) : Type 0 where

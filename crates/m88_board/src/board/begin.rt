@@ -5,7 +5,7 @@ ghost use Rattle.m88_base.specs.Slot.{IsWordSlot, slot_word, valid_slot};
 ghost use Rattle.m88_base.specs.declared.absent.Absent.{Absent as AbsentValue};
 ghost use Rattle.m88_ctrl.specs.ControlRegisters.{mxm_of};
 ghost use Rattle.m88_board.specs.Board.{local_of};
-ghost use Rattle.m88_board.specs.Parts.{IsAtWord, MayBegin, begun_control, last_of, parts_of, seen_of, xip_of};
+ghost use Rattle.m88_board.specs.Parts.{IsAtWord, MayBegin, begun_control, last_of, parts_of, seen_of_parts, xip_of};
 
 use super::Board;
 use crate::parts::Parts;
@@ -25,7 +25,7 @@ impl Board {
         ensures begins { MayBegin result self.limit }
         ensures early { result.retired < self.limit }
         ensures seen { mxm_of self.control ≡ false
-            → seen_of result ≡ record (local_of self) { ended = None } }
+            → seen_of_parts result ≡ record (local_of self) { ended = None } }
     {
         let (sxip, _, _) = self.iunit.shadow();
         let xip = self.iunit.xip();
@@ -53,7 +53,7 @@ impl Board {
     /// absent pages of its own: memory comes with those that are absent. It takes no memory.
     pub fn begin(parts: Parts, limit: u32) -> Board
         requires { MayBegin parts limit }
-        ensures seen { local_of result ≡ seen_of parts }
+        ensures seen { local_of result ≡ seen_of_parts parts }
         ensures limit { result.limit ≡ limit }
         ensures named { result.named ≡ AbsentValue.None }
         ensures memory { result.memory ≡ parts.memory }

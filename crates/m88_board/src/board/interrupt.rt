@@ -8,7 +8,7 @@ ghost use Rattle.m88_isa.specs.Machine.{Program};
 ghost use Rattle.m88_mem.specs.Marks.{absent_in};
 ghost use Rattle.m88_scoreboard.specs.Registers.{none_waits, waiting_of};
 ghost use Rattle.m88_board.specs.Board.{local_of};
-ghost use Rattle.m88_board.specs.Contexts.{IsRunOf, Stands, StandsFor, context_of, switched};
+ghost use Rattle.m88_board.specs.Contexts.{IsRunOf, StandsFor, StandsForSome, context_of, switched};
 ghost use Rattle.m88_board.specs.Kept.{IsKept};
 ghost use Rattle.m88_board.specs.Moves.{IsAt};
 
@@ -26,7 +26,7 @@ impl Board {
     /// words that it saves become the context's, and the board goes on by those that the context had. The answer is
     /// what `pipe` shows before. It takes no memory.
     pub fn interrupt(&mut self, other: &mut Context) -> Result<Record, NotEmpty>
-        requires stands { Stands other.old }
+        requires stands { StandsForSome other.old }
         requires begun { self.old.begun ≡ false }
 
         // It is refused exactly where something is pending, and then both are as before.

@@ -1,7 +1,7 @@
 use Rattle.std.proofs.Common.{ℕ, ◌<◌, ◌≡◌, ap, sym, subst, ◌∙◌}
 use Rattle.std.specs.Prelude.{slice_index}
 use Rattle.m88_board.specs.Board.{local_of}
-use Rattle.m88_board.specs.Parts.{MayBegin, seen_of}
+use Rattle.m88_board.specs.Parts.{MayBegin, seen_of_parts}
 use Rattle.m88_board.specs.declared.parts.Parts.{Parts}
 use Rattle.m88_mem.specs.DataBus.{MemoryView}
 use Rattle.m88_emul.proofs.OnBoards.{begun_clear, goes_on_so, may_go_on, parts_bytes, parts_regs, same_aid, zeros_stay}
@@ -46,7 +46,7 @@ returns c =
           let aided : IsAided aid parts.regs c.emulate.new.regs parts.memory c.emulate.new.memory =
           subst (λ (a : Aid). IsAided a parts.regs c.emulate.new.regs parts.memory c.emulate.new.memory) same done.2.2 in
           c.begin.ensures.seen
-          ∙ ap seen_of c.behind.ensures
+          ∙ ap seen_of_parts c.behind.ensures
           ∙ goes_on_so parts c.emulate.new.regs c.emulate.new.memory aid (local_of c.args.board)
           (c.into_parts-parts.ensures.seen c.requires.clear) aided;
     }

@@ -6,7 +6,7 @@ use Rattle.m88_ctrl.specs.ControlRegisters.{ControlRegisters, with_carry}
 use Rattle.m88_board.proofs.Beginning.{begins, kept_begun, seen_begun}
 use Rattle.m88_board.specs.Board.{BoardView, local_of}
 use Rattle.m88_board.specs.Kept.{IsKept}
-use Rattle.m88_board.specs.Parts.{seen_of}
+use Rattle.m88_board.specs.Parts.{seen_of_parts}
 use Rattle.m88_board.proofs.board.Board.begin.Goals as goal
 
 pub invariant_of-result : goal.invariant_of-result
@@ -22,7 +22,7 @@ invariant_of-result c =
 
 pub returns-clause-seen : goal.returns-clause-seen
 returns-clause-seen c =
-    begins (λ (b : BoardView). local_of b ≡ seen_of c.args.parts) c.args.parts c.args.limit c.of.result c.at.result
+    begins (λ (b : BoardView). local_of b ≡ seen_of_parts c.args.parts) c.args.parts c.args.limit c.of.result c.at.result
     c.pointer_of-xip.result c.fetched.result c.fetched-2.result c.lacks_word-lacks.result c.lacks_word-lacks_next.result
     c.new.result c.set_carry.new.self c.new-ctrl.result c.into_items.result.items c.into_items-2.result.items
     c.at.ensures c.pointer_of-xip.ensures.value c.fetched.ensures c.fetched-2.ensures c.lacks_word-lacks.ensures

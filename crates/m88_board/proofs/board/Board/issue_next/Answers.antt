@@ -11,7 +11,7 @@ use Rattle.m88_board.proofs.Fetching.{line_by, vector_by, vector_small}
 use Rattle.m88_board.proofs.Telling.{stopped_stays, word_told}
 use Rattle.m88_board.specs.Board.{local_of, pc_of}
 use Rattle.m88_board.specs.Inside.Briefly.{happened_of}
-use Rattle.m88_board.specs.Moves.{stopping}
+use Rattle.m88_board.specs.Inside.Turns.{stopping}
 use Rattle.m88_board.proofs.board.Board.issue_next.Goals as goal
 
 pub returns-in-Err-clause-tells : goal.returns-in-Err-clause-tells

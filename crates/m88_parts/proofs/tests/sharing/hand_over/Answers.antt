@@ -2,11 +2,11 @@
 use Rattle.std.proofs.Common.{ℕ, Bool}
 use Rattle.m88_event.specs.Timeline.{Moment}
 use Rattle.m88_isa.specs.Machine.{Program}
-use Rattle.m88_board.specs.Contexts.{Stands, StandsFor}
+use Rattle.m88_board.specs.Contexts.{StandsFor, StandsForSome}
 use Rattle.m88_board.specs.declared.context.Context.{Context}
 use Rattle.m88_parts.proofs.tests.sharing.hand_over.Goals as goal
 
-stands_by : (p : Program) (named : ℕ → Bool) (m : Moment) (context : Context) → StandsFor p named m context → Stands context
+stands_by : (p : Program) (named : ℕ → Bool) (m : Moment) (context : Context) → StandsFor p named m context → StandsForSome context
 stands_by p named m context it = (p, named, m, it)
 
 pub interrupt-requires-clause-stands : goal.interrupt-requires-clause-stands
