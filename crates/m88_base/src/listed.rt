@@ -1,6 +1,7 @@
 //! A list as a value that clauses compare.
-ghost use Rattle.std.specs.Prelude.{◌≡◌};
+ghost use Rattle.std.specs.Prelude.{◌≡◌, ◌++◌, ◌∷◌, [], OnErr, OnOk};
 
+use crate::failing::NoMemory;
 use std::marker::Model;
 
 /// A vector that a clause compares by its items alone.
@@ -37,5 +38,15 @@ impl<T> Listed<T> {
         ensures { result.items ≡ self }
     {
         self.items
+    }
+}
+
+impl<T: Drop> Listed<T> {
+    /// Puts an item behind the others. Where memory runs out, the list is as before.
+    pub fn push(&mut self, item: T) -> Result<(), NoMemory>
+        ensures ok { OnOk result (self.new ≡ self.old ++ item ∷ []) }
+        ensures err { OnErr result (self.new ≡ self.old) }
+    {
+        self.items.push(item).or(Err(NoMemory))
     }
 }
