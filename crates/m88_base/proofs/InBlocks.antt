@@ -101,12 +101,6 @@ place_here bs b k i block l is sum room = record {
   sum = sum;
 }
 
--- an element that is put back where it stood
-pub put_back : {X : Type 0} (xs : List X) (i : ℕ) (x : X) → x ≡ get_or xs i x → set xs i x ≡ xs
-put_back [] i x is = refl
-put_back (y ∷ xs) zero x is = ap (λ z. z ∷ xs) is
-put_back (y ∷ xs) (suc i) x is = ap (λ zs. y ∷ zs) (put_back xs i x is)
-
 -- a block in two
 pub halved : (bs : List (List Placed)) (b : ℕ) (lower upper : List Placed) → b < length bs → lower ++ upper ≡ get_or bs b []
     → all_runs (insert (set bs b lower) (suc b) upper) ≡ all_runs bs

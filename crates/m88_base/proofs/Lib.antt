@@ -3,6 +3,7 @@ pub mod Apart
 pub mod AsciiDigits
 pub mod Calls
 pub mod Constants
+pub mod Changed
 pub mod Copied
 pub mod Counting
 pub mod Cuts

@@ -1,15 +1,14 @@
 //! A few runs in a row.
-ghost use Rattle.std.specs.Prelude.{◌≡◌, ◌/◌, ◌<◌, ◌≤◌, [], ◌∷◌, ◌++◌, leb, length, insert, remove, slice_index_or, slice_set, IfOk, OnOk, OnErr};
+ghost use Rattle.std.specs.Prelude.{◌≡◌, ◌+◌, ◌/◌, ◌^◌, ◌<◌, ◌≤◌, [], ◌∷◌, ◌++◌, leb, length, insert, remove, slice_index_or, slice_set, IfOk, OnOk, OnErr};
 ghost use Rattle.std.specs.List.Sorted.{IsNonDecreasingBy};
 ghost use Rattle.m88_base.specs.Found.{filled};
-ghost use Rattle.m88_base.specs.Inside.Blocks.{first_start};
+ghost use Rattle.m88_base.specs.Inside.Blocks.{end_of, first_start, run_at, with_ahead, with_behind};
 ghost use Rattle.m88_base.specs.Inside.Placing.{IsCut, IsCutBy, IsLastBy};
 ghost use Rattle.m88_base.specs.Placed.{AreApart, byte_among};
 
 use crate::segment::Segment;
 use std::alloc::{AllocError, Global};
 use std::marker::Model;
-use std::mem;
 
 /// Runs in a row, few enough that one more is soon put between them.
 #[derive(Drop, Debug)]
@@ -113,13 +112,31 @@ impl Block {
         Ok(())
     }
 
-    /// Puts a run in the place of another, and gives that one back.
-    pub fn replace(&mut self, index: usize, run: Segment) -> Segment
-        requires { index < length self.old }
-        ensures was { result ≡ slice_index_or self.old index result }
-        ensures now { self.new ≡ slice_set self.old index run }
+    /// Puts copies of bytes behind those of the run at an index: the run has them, or all is as before.
+    pub fn append_at(&mut self, alloc: Global, index: usize, bytes: &[u8]) -> Result<(), AllocError>
+        requires within { index < length self.old }
+        requires room { end_of (run_at self.old index) + length bytes.now ≤ 2 ^ 32 }
+        ensures ok { OnOk result
+            (self.new ≡ slice_set self.old index (with_behind (run_at self.old index) bytes.now)) }
+        ensures err { OnErr result (self.new ≡ self.old) }
     {
-        mem::replace(&mut self.runs[index], run)
+        self.runs[index].append(alloc, bytes)
+    }
+
+    /// Puts copies of bytes ahead of those of the run at an index: the run has them, or all is as before.
+    pub fn prepend_at(
+        &mut self,
+        alloc: Global,
+        index: usize,
+        bytes: &[u8],
+    ) -> Result<(), AllocError>
+        requires within { index < length self.old }
+        requires room { length bytes.now ≤ (run_at self.old index).at }
+        ensures ok { OnOk result
+            (self.new ≡ slice_set self.old index (with_ahead (run_at self.old index) bytes.now)) }
+        ensures err { OnErr result (self.new ≡ self.old) }
+    {
+        self.runs[index].prepend(alloc, bytes)
     }
 
     /// Takes the run at an index out.

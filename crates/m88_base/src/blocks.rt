@@ -1,10 +1,10 @@
 //! Runs in a row, in blocks, so that few others move when one more is put between them.
-ghost use Rattle.std.specs.Prelude.{◌≡◌, ◌+◌, ◌<◌, ◌≤◌, [], true, false, length, insert, remove, slice_index_or, slice_set, take, IfNone, IfOk, IfSome, OnOk, OnErr};
+ghost use Rattle.std.specs.Prelude.{◌≡◌, ◌+◌, ◌^◌, ◌<◌, ◌≤◌, [], true, false, length, insert, remove, slice_index_or, slice_set, take, IfNone, IfOk, IfSome, OnOk, OnErr};
 ghost use Rattle.std.specs.List.Sorted.{IsNonDecreasingBy};
 ghost use Rattle.m88_base.specs.Found.{filled};
 ghost use Rattle.m88_base.specs.Placed.{AreApart, byte_among};
 ghost use Rattle.m88_base.specs.Inside.Placing.{IsCut, IsCutBy, IsLastBy};
-ghost use Rattle.m88_base.specs.Inside.Blocks.{IsCounted, IsCountedUpTo, IsPlaceInBlocks, IsRunInBlocks, all_runs, first_start};
+ghost use Rattle.m88_base.specs.Inside.Blocks.{IsCounted, IsCountedUpTo, IsPlaceInBlocks, IsRunInBlocks, all_runs, end_of, first_start, run_at, with_ahead, with_behind};
 
 use crate::block::Block;
 use crate::segment::Segment;
@@ -146,15 +146,37 @@ impl Blocks {
         Ok(())
     }
 
-    /// Puts a run in the place of another, and gives that one back.
-    pub fn replace(&mut self, index: usize, run: Segment) -> Segment
-        requires { index < length (all_runs self.old) }
-        ensures was { result ≡ slice_index_or (all_runs self.old) index result }
-        ensures now { all_runs self.new ≡ slice_set (all_runs self.old) index run }
+    /// Puts copies of bytes behind those of the run at an index: the run has them, or all is as before.
+    pub fn append_at(&mut self, alloc: Global, index: usize, bytes: &[u8]) -> Result<(), AllocError>
+        requires within { index < length (all_runs self.old) }
+        requires room { end_of (run_at (all_runs self.old) index) + length bytes.now ≤ 2 ^ 32 }
+        ensures ok { OnOk result (all_runs self.new ≡ slice_set (all_runs self.old) index
+            (with_behind (run_at (all_runs self.old) index) bytes.now)) }
+        ensures err { OnErr result (all_runs self.new ≡ all_runs self.old) }
     {
         let (at, inside) = self.place_of(index);
         let block = &mut self.blocks[at];
-        block.replace(inside, run)
+        block.append_at(alloc, inside, bytes)?;
+        Ok(())
+    }
+
+    /// Puts copies of bytes ahead of those of the run at an index: the run has them, or all is as before.
+    pub fn prepend_at(
+        &mut self,
+        alloc: Global,
+        index: usize,
+        bytes: &[u8],
+    ) -> Result<(), AllocError>
+        requires within { index < length (all_runs self.old) }
+        requires room { length bytes.now ≤ (run_at (all_runs self.old) index).at }
+        ensures ok { OnOk result (all_runs self.new ≡ slice_set (all_runs self.old) index
+            (with_ahead (run_at (all_runs self.old) index) bytes.now)) }
+        ensures err { OnErr result (all_runs self.new ≡ all_runs self.old) }
+    {
+        let (at, inside) = self.place_of(index);
+        let block = &mut self.blocks[at];
+        block.prepend_at(alloc, inside, bytes)?;
+        Ok(())
     }
 
     /// Takes the run at an index out.

@@ -2,6 +2,7 @@
 ghost use Rattle.std.specs.Prelude.{◌≡◌, ◌+◌, ◌-◌, ◌^◌, ◌≤◌, ◌++◌, [], take, drop, length, replicate, slice_get, IfOk, OnOk, OnErr};
 ghost use Rattle.m88_base.specs.Found.{filled};
 ghost use Rattle.m88_base.specs.Placed.{byte_in};
+ghost use Rattle.m88_base.specs.Inside.Blocks.{with_ahead, with_behind};
 
 use arrayvec::ArrayVec;
 use std::alloc::{AllocError, Global};
@@ -68,18 +69,6 @@ impl Segment {
         Segment::new(alloc, self.at, self.bytes())
     }
 
-    /// A run of no bytes, which takes no memory.
-    pub fn empty(alloc: Global) -> Segment
-        ensures { result ≡ record { at = 0; bytes = [] } }
-    {
-        Segment {
-            at: 0,
-            ahead: 0,
-            few: ArrayVec::new(),
-            kept: Vec::new(alloc),
-        }
-    }
-
     /// The address of the first byte.
     pub fn at(&self) -> u32
         ensures { result ≡ self.now.at }
@@ -139,37 +128,26 @@ impl Segment {
         }
     }
 
-    /// Puts copies of two lists of bytes at the end, both or none.
-    pub fn append(&mut self, alloc: Global, first: &[u8], second: &[u8]) -> Result<(), AllocError>
-        requires { self.old.at + length self.old.bytes + length first.now + length second.now
-            ≤ 2 ^ 32 }
-        ensures ok { OnOk result (self.new
-            ≡ record self.old { bytes = self.old.bytes ++ (first.now ++ second.now) }) }
+    /// Puts copies of bytes behind the others.
+    pub fn append(&mut self, alloc: Global, bytes: &[u8]) -> Result<(), AllocError>
+        requires { self.old.at + length self.old.bytes + length bytes.now ≤ 2 ^ 32 }
+        ensures ok { OnOk result (self.new ≡ with_behind self.old bytes.now) }
         ensures err { OnErr result (self.new ≡ self.old) }
     {
         if !self.few.is_empty() {
-            self.kept = behind(alloc, self.few.as_slice(), first, second)?;
+            self.kept = joined(alloc, self.few.as_slice(), bytes)?;
             self.few = ArrayVec::new();
             self.ahead = 0;
             return Ok(());
         }
-        self.kept.reserve(first.len() + second.len())?;
-        if self.kept.extend_from_slice(first).is_err() {
-            unreachable!();
-        }
-        if self.kept.extend_from_slice(second).is_err() {
-            unreachable!();
-        }
+        self.kept.extend_from_slice(bytes)?;
         Ok(())
     }
 
     /// Puts copies of bytes ahead of the others.
     pub fn prepend(&mut self, alloc: Global, bytes: &[u8]) -> Result<(), AllocError>
         requires { length bytes.now ≤ self.old.at }
-        ensures ok { OnOk result (self.new ≡ record {
-          at = self.old.at - length bytes.now;
-          bytes = bytes.now ++ self.old.bytes;
-        }) }
+        ensures ok { OnOk result (self.new ≡ with_ahead self.old bytes.now) }
         ensures err { OnErr result (self.new ≡ self.old) }
     {
         if !self.few.is_empty() || self.ahead < bytes.len() {
@@ -196,14 +174,13 @@ fn lay(bytes: &[u8], room: &mut [u8])
     room[..count].copy_from_slice(&bytes[..count]);
 }
 
-/// Copies of three lists of bytes in a row.
-fn behind(alloc: Global, few: &[u8], first: &[u8], second: &[u8]) -> Result<Vec<u8>, AllocError>
-    ensures { IfOk result (λ kept. kept.items ≡ few.now ++ (first.now ++ second.now)) }
+/// Copies of two lists of bytes in a row.
+pub fn joined(alloc: Global, first: &[u8], second: &[u8]) -> Result<Vec<u8>, AllocError>
+    ensures { IfOk result (λ both. both.items ≡ first.now ++ second.now) }
 {
-    let mut kept = Vec::from_slice(alloc, few)?;
-    kept.extend_from_slice(first)?;
-    kept.extend_from_slice(second)?;
-    Ok(kept)
+    let mut both = Vec::from_slice(alloc, first)?;
+    both.extend_from_slice(second)?;
+    Ok(both)
 }
 
 /// Copies of two lists of bytes behind room for so many others.

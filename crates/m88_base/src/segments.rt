@@ -6,7 +6,7 @@ ghost use Rattle.m88_base.specs.Inside.Placing.{AnswersPlacing, BeginsAbove, Beg
 ghost use Rattle.m88_base.specs.Inside.Blocks.{all_runs};
 
 use crate::blocks::Blocks;
-use crate::segment::Segment;
+use crate::segment::{Segment, joined};
 use std::alloc::{AllocError, Global};
 use std::marker::Model;
 
@@ -186,17 +186,8 @@ impl Segments {
         requires { StandsBetween EndsAt BeginsAbove self.old index at (length bytes.now) }
         ensures { AnswersPlacing result self.old self.new at bytes.now }
     {
-        let mut run = self.runs.replace(index - 1, Segment::empty(alloc));
-        match run.append(alloc, bytes, &[]) {
-            Ok(()) => {
-                let _ = self.runs.replace(index - 1, run);
-                Ok(())
-            }
-            Err(fault) => {
-                let _ = self.runs.replace(index - 1, run);
-                Err(fault)
-            }
-        }
+        self.runs.append_at(alloc, index - 1, bytes)?;
+        Ok(())
     }
 
     /// Places bytes just ahead of the run at `index`.
@@ -210,17 +201,8 @@ impl Segments {
         requires { StandsBetween EndsBelow BeginsAt self.old index at (length bytes.now) }
         ensures { AnswersPlacing result self.old self.new at bytes.now }
     {
-        let mut run = self.runs.replace(index, Segment::empty(alloc));
-        match run.prepend(alloc, bytes) {
-            Ok(()) => {
-                let _ = self.runs.replace(index, run);
-                Ok(())
-            }
-            Err(fault) => {
-                let _ = self.runs.replace(index, run);
-                Err(fault)
-            }
-        }
+        self.runs.prepend_at(alloc, index, bytes)?;
+        Ok(())
     }
 
     /// Places bytes that fill the gap between the run below `index` and the one at it. The shorter run moves, so that
@@ -235,75 +217,19 @@ impl Segments {
         requires { StandsBetween EndsAt BeginsAt self.old index at (length bytes.now) }
         ensures { AnswersPlacing result self.old self.new at bytes.now }
     {
-        let below = self.runs.get(index - 1).bytes().len();
-        let above = self.runs.get(index).bytes().len();
-        if below < above {
-            return self.bridge_down(alloc, index, at, bytes);
+        let below = self.runs.get(index - 1).bytes();
+        let above = self.runs.get(index).bytes();
+        if below.len() < above.len() {
+            let front = joined(alloc, below, bytes)?;
+            self.runs.prepend_at(alloc, index, &front)?;
+            self.runs.remove(index - 1);
+            return Ok(());
         }
-        self.bridge_up(alloc, index, at, bytes)
+        let back = joined(alloc, bytes, above)?;
+        self.runs.append_at(alloc, index - 1, &back)?;
+        self.runs.remove(index);
+        Ok(())
     }
-
-    /// Places bytes that fill such a gap, with the run above it behind the one below it.
-    fn bridge_up(
-        &mut self,
-        alloc: Global,
-        index: usize,
-        at: u32,
-        bytes: &[u8],
-    ) -> Result<(), AllocError>
-        requires { StandsBetween EndsAt BeginsAt self.old index at (length bytes.now) }
-        ensures { AnswersPlacing result self.old self.new at bytes.now }
-    {
-        let mut run = self.runs.replace(index - 1, Segment::empty(alloc));
-        let next = self.runs.get(index);
-        match run.append(alloc, bytes, next.bytes()) {
-            Ok(()) => {
-                let _ = self.runs.replace(index - 1, run);
-                self.runs.remove(index);
-                Ok(())
-            }
-            Err(fault) => {
-                let _ = self.runs.replace(index - 1, run);
-                Err(fault)
-            }
-        }
-    }
-
-    /// Places bytes that fill such a gap, with the run below it ahead of the one above it.
-    fn bridge_down(
-        &mut self,
-        alloc: Global,
-        index: usize,
-        at: u32,
-        bytes: &[u8],
-    ) -> Result<(), AllocError>
-        requires { StandsBetween EndsAt BeginsAt self.old index at (length bytes.now) }
-        ensures { AnswersPlacing result self.old self.new at bytes.now }
-    {
-        let below = self.runs.get(index - 1);
-        let front = joined(alloc, below.bytes(), bytes)?;
-        let mut run = self.runs.replace(index, Segment::empty(alloc));
-        match run.prepend(alloc, &front) {
-            Ok(()) => {
-                let _ = self.runs.replace(index, run);
-                self.runs.remove(index - 1);
-                Ok(())
-            }
-            Err(fault) => {
-                let _ = self.runs.replace(index, run);
-                Err(fault)
-            }
-        }
-    }
-}
-
-/// Copies of two lists of bytes in a row.
-fn joined(alloc: Global, first: &[u8], second: &[u8]) -> Result<Vec<u8>, AllocError>
-    ensures { IfOk result (λ both. both.items ≡ first.now ++ second.now) }
-{
-    let mut both = Vec::from_slice(alloc, first)?;
-    both.extend_from_slice(second)?;
-    Ok(both)
 }
 
 /// Whether the run at `index` begins at an address.

@@ -1,5 +1,5 @@
 -- Runs in a row that are kept in blocks, and where in the blocks a run stands.
-use Rattle.std.specs.Prelude.{◌≡◌, ℕ, ◌+◌, ◌^◌, ◌<◌, ◌≤◌, List, [], ◌∷◌, ◌++◌, All, length, take, slice_index_or}
+use Rattle.std.specs.Prelude.{◌≡◌, ℕ, ◌+◌, ◌-◌, ◌^◌, ◌<◌, ◌≤◌, List, [], ◌∷◌, ◌++◌, All, length, take, slice_index_or}
 use Rattle.m88_base.specs.Placed.{Placed}
 
 -- the runs of all blocks
@@ -42,3 +42,23 @@ pub record IsCountedUpTo (n : ℕ) (starts : List ℕ) (blocks : List (List Plac
 abbrev pub first_start : List Placed → ℕ
 first_start [] = 0
 first_start (run ∷ runs) = run.at
+
+-- a run of no bytes
+abbrev pub no_run : Placed
+no_run = record { at = 0; bytes = [] }
+
+-- the run at an index, one of no bytes where there is none
+abbrev pub run_at : List Placed → ℕ → Placed
+run_at runs index = slice_index_or runs index no_run
+
+-- the address just after the last byte of a run
+abbrev pub end_of : Placed → ℕ
+end_of run = run.at + length run.bytes
+
+-- a run with bytes behind its own
+abbrev pub with_behind : Placed → List ℕ → Placed
+with_behind run bytes = record { at = run.at; bytes = run.bytes ++ bytes }
+
+-- a run with bytes ahead of its own
+abbrev pub with_ahead : Placed → List ℕ → Placed
+with_ahead run bytes = record { at = run.at - length bytes; bytes = bytes ++ run.bytes }
