@@ -43,3 +43,8 @@ pub use Rattle.m88_base.proofs.Decided.{IsDecided, at_most, both_decided, same_t
 pub use Rattle.m88_base.proofs.Calls.{calls_more, calls_none}
 -- what two reads take together, and that the front of a buffer is as long as what was read into it
 pub use Rattle.m88_base.proofs.Known.{consumes_front, consumes_more, length_front, takes_at_most, takes_exactly}
+-- Sinks and sources: a text stands whole behind what a sink held only where it was written whole, and a source that has
+-- nothing left gave all that it had.
+pub use Rattle.m88_base.proofs.Wholly.{not_part, not_whole, same_input}
+-- a program that wrote ended in one of three ways
+pub use Rattle.m88_base.proofs.Wholly.{answered, only_refused, wrote}

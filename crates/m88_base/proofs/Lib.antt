@@ -26,4 +26,5 @@ pub mod RegisterBits
 pub mod Same
 pub mod SameRuns
 pub mod Splitting
+pub mod Wholly
 pub mod Laws

@@ -16,6 +16,9 @@ pub mod Refusal
 pub mod Causes
 pub mod Calls
 pub mod Outside
+pub mod Reading
+pub mod Status
+pub mod Reply
 pub mod OneVerdict
 pub mod Memory
 pub mod Found

@@ -1,5 +1,5 @@
-//! What every other crate stands on: the numbers of registers, where bytes come from and go to,
-//! and the image that a program is linked into.
+//! What every other crate stands on: the numbers of registers, where bytes come from and go to and how a program
+//! ends with them, and the image that a program is linked into.
 #![tactic(auto)]
 
 // Registers, instruction pointers, and what the data unit is asked for.
@@ -8,14 +8,16 @@ mod reg;
 mod slot;
 mod triple;
 
-// Where bytes come from and go to.
+// Where bytes come from and go to, and how a program ends that reads and writes them.
 mod failing;
 mod mem_sink;
 mod mem_source;
 mod pieces;
 mod reading;
+mod reply;
 mod sink;
 mod source;
+mod status;
 mod std_edge;
 mod writing;
 
@@ -52,12 +54,14 @@ pub use mem_source::MemSource;
 pub use name::{Name, continues_name};
 pub use numerals::{decimal_in, number_in, push_decimal};
 pub use parting::{Parted, Unparted, parted_at};
-pub use reading::{ReadEnd, read_all};
+pub use reading::{MOST_INPUT, ReadEnd, read_all};
 pub use refused::{Refusal, push_refused};
 pub use reg::Reg;
+pub use reply::Reply;
 pub use sink::Sink;
 pub use slot::Slot;
 pub use source::Source;
+pub use status::Status;
 pub use std_edge::{StdSink, StdSource};
 pub use triple::{NO_TRIPLE, Triple};
 pub use writing::{SinkFault, write_all};

@@ -10,6 +10,9 @@ use crate::source::Source;
 use std::alloc::{AllocError, Global};
 use thiserror::Error;
 
+/// The most bytes that the input of a program may have: one mebibyte.
+pub const MOST_INPUT: usize = 1_048_576;
+
 /// Why a source was not read to its end.
 #[derive(Clone, Copy, PartialEq, Eq, Debug, Error)]
 pub enum ReadEnd {

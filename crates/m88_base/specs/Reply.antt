@@ -1,0 +1,7 @@
+-- What a reply to an input says.
+use Rattle.std.specs.Prelude.{ℕ, List, MatchBool}
+use Rattle.m88_base.specs.declared.reply.Reply.{Reply}
+
+-- the reply's text answers an input that is accepted or one that is refused, as the reply says
+abbrev pub AnswersAs : (IsAccepted IsRefused : List ℕ → Type 0) → Reply → Type 0
+AnswersAs IsAccepted IsRefused r = MatchBool r.accepted (IsAccepted r.text.items) (IsRefused r.text.items)
