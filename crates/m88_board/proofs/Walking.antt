@@ -3,14 +3,12 @@ use Rattle.std.specs.Prelude.{ℕ, zero, suc, Bool, false, not, List, [], ◌∷
 use Rattle.std.proofs.Common.{add-one, arith, refl, sym, ap, ap₂, ◌∙◌, subst}
 use Rattle.std.proofs.Math.Path.{fun_ext}
 use Rattle.std.proofs.lemmas.Bool.{eqb-false, eqb-true}
-use Rattle.m88_event.proofs.Laws.{drained_seen}
-use Rattle.m88_event.specs.Choice.{Choice, evicts, faults, finishes, holds, idles, issues, passes, replies, serves}
+use Rattle.m88_event.proofs.Laws.{drained_seen, letter_events}
 use Rattle.m88_event.specs.Letters.{letter_at}
 use Rattle.m88_event.specs.Local.{Local}
 use Rattle.m88_event.specs.Run.{NotBefore, letters_from, moment_after, moment_along}
-use Rattle.m88_event.specs.Timeline.{Moment, after_choice, after_letter, choice_at, is_drained, is_over, opening_moment, record_at}
+use Rattle.m88_event.specs.Timeline.{Moment, after_letter, is_drained, is_over, opening_moment}
 use Rattle.m88_event.specs.declared.letter.Letter.{Letter}
-use Rattle.m88_event.specs.declared.record.Record.{Record}
 use Rattle.m88_isa.proofs.Laws.{by_test}
 use Rattle.m88_isa.specs.Held.{is_pending}
 use Rattle.m88_isa.specs.Machine.{Program}
@@ -106,24 +104,7 @@ run_went Holds p named limit now schedule letters taken limits same none walked 
     (subst (λ (n : ℕ). Holds (λ k. is_over p n (moments_from p named now letters taken opening_moment k))
     (moments_from p named now letters taken opening_moment)) limits walked)
 
--- each event is counted
-choice_events : (p : Program) (choice : Choice) (fault : Record) (m : Moment) → (after_choice p choice fault m).events ≡ m.events
-choice_events p idles fault m = refl
-choice_events p passes fault m = refl
-choice_events p (holds why) fault m = refl
-choice_events p (issues change) fault m = refl
-choice_events p (serves byte) fault m = refl
-choice_events p (finishes stop) fault m = refl
-choice_events p replies fault m = refl
-choice_events p faults fault m = refl
-choice_events p evicts fault m = refl
-
-letter_events : (p : Program) (named : ℕ → Bool) (limit : ℕ) (letter : Letter) (m : Moment) →
-    (after_letter p named limit letter m).events ≡ m.events + 1
-unfolding after_letter
-letter_events p named limit letter m =
-    ap (λ (n : ℕ). n + 1) (choice_events p (choice_at p named limit letter m) (record_at p named limit m) m)
-
+-- so many events of letters
 pub along_events : (p : Program) (named : ℕ → Bool) (limit : ℕ) (letters : ℕ → Letter) (m : Moment) (k : ℕ) →
     (moment_along p named limit letters m k).events ≡ m.events + k
 unfolding moment_along

@@ -171,7 +171,8 @@ by_choice : (p : Program) (named : ℕ → Bool) (m : Moment) (choice : Choice) 
     IsProgram p →
     m.done ≤ transaction_count p m.retired →
     Fits p m choice →
-    move_by choice fault (local_at p named m) ≡ local_at p named (after_choice p choice fault m)
+    move_by choice fault (local_at p named m)
+    ≡ local_at p named (after_choice (pending_at p m.retired m.done) choice fault m)
 unfolding local_at completed_state
 by_choice p named m idles fault bytes kept fit = refl
 by_choice p named m passes fault bytes kept fit = refl
@@ -236,10 +237,10 @@ by_choice p named m replies fault bytes kept fit =
       records = m.records;
     }
 by_choice p named m faults fault bytes kept fit =
-    let bus = finished_bus p m.retired m.done in
-    let pending = sym (drop_all (transaction_count p m.retired) (transactions p m.retired) (omega arith)) in
     let left = length-drop m.done (transactions p m.retired) in
-    let done : m.done + length (pending_at p m.retired m.done) ≡ transaction_count p m.retired = omega (arith, left, kept) in
+    let done : transaction_count p m.retired ≡ m.done + length (pending_at p m.retired m.done) = omega (arith, left, kept) in
+    let bus = finished_bus p m.retired m.done ∙ ap (bus_at p m.retired) done in
+    let pending = sym (drop_all (m.done + length (pending_at p m.retired m.done)) (transactions p m.retired) (omega (arith, done))) in
     let absent : (λ page. absent_at named m page && not (touches_page (pending_at p m.retired m.done) page))
     ≡ (λ page. (if m.evicted then every_page page else named page) && not (m.supplied page || touches_page (pending_at p m.retired m.done) page)) =
     fun_ext (λ page. finished_absent (if m.evicted then every_page page else named page) (m.supplied page) (touches_page (pending_at p m.retired m.done) page)) in
@@ -252,7 +253,7 @@ by_choice p named m faults fault bytes kept fit =
       ended = end_at p m;
       absent = absent i;
       retired = m.retired;
-      done = done i;
+      done = m.done + length (pending_at p m.retired m.done);
       events = m.events;
       answers = m.answers;
       records = m.records ++ (fault ∷ []);
@@ -273,7 +274,7 @@ law p named limit letter m bytes kept =
     ap (λ s. with_move_counted (move_by (choice_of p letter s) (record_of p s) (local_at p named m))) (same_situation p named limit m)
     ∙ ap with_move_counted (by_choice p named m (choice_of p letter (situation_at p named limit m)) (record_of p (situation_at p named limit m))
     bytes kept (fits p named limit letter m))
-    ∙ same_count p named (after_choice p (choice_of p letter (situation_at p named limit m)) (record_of p (situation_at p named limit m)) m)
+    ∙ same_count p named (after_choice (pending_at p m.retired m.done) (choice_of p letter (situation_at p named limit m)) (record_of p (situation_at p named limit m)) m)
 
 -- and it says the same
 pub same_said : (p : Program) (named : ℕ → Bool) (limit : ℕ) (letter : Letter) (m : Moment) →
@@ -285,7 +286,7 @@ same_said p named limit letter m = ap (λ s. said (choice_of p letter s) (record
 kept_by_choice : (p : Program) (m : Moment) (choice : Choice) (fault : Record) →
     DoneWereMade p m →
     Fits p m choice →
-    DoneWereMade p (after_choice p choice fault m)
+    DoneWereMade p (after_choice (pending_at p m.retired m.done) choice fault m)
 kept_by_choice p m idles fault kept fit = kept
 kept_by_choice p m passes fault kept fit = kept
 kept_by_choice p m (holds why) fault kept fit = kept
@@ -299,7 +300,8 @@ kept_by_choice p m (serves byte) fault kept fit =
     omega (arith, more, split, kept)
 kept_by_choice p m (finishes stop) fault kept fit = kept
 kept_by_choice p m replies fault kept fit = omega (arith, fit)
-kept_by_choice p m faults fault kept fit = omega arith
+kept_by_choice p m faults fault kept fit =
+    let left = length-drop m.done (transactions p m.retired) in omega (arith, left, kept)
 kept_by_choice p m evicts fault kept fit = kept
 
 pub stays_within : (p : Program) (named : ℕ → Bool) (limit : ℕ) (letter : Letter) (m : Moment) →

@@ -13,6 +13,8 @@ pub use Rattle.m88_event.proofs.Follows.{ended_is, law as moves_as_seen, same_sa
 pub use Rattle.m88_event.proofs.Follows.{Fits, fits, more_transactions, reached_within, stays_within}
 -- what lies behind a moment is so at the opening, at the next moment where it is so at this one, and so at each of a run
 pub use Rattle.m88_event.proofs.Past.{keeps_past, opens_with, past_after}
+-- each letter is one event
+pub use Rattle.m88_event.proofs.Past.{letter_events}
 -- The bound of a run: each letter before its end lessens a weight, which is bounded, at the start too.
 pub use Rattle.m88_event.proofs.Bound.{answered_lessens, fuel_stays, lessens, weight_at_start, weight_most}
 -- no letter retires more than the limit

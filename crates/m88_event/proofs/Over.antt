@@ -60,10 +60,10 @@ outcome_seen p named m = refl
 abbrev pub issued_of : Moment → ℕ × Bool × Bool
 issued_of m = (m.retired, m.bubble, m.ended)
 
-answer_issues_none : (p : Program) (fault : Record) (m : Moment) (pending : List Access) (absent : ℕ → Bool) →
-    issued_of (after_choice p (answer_choice pending absent) fault m) ≡ issued_of m
-answer_issues_none p fault m [] absent = refl
-answer_issues_none p fault m (x ∷ xs) absent =
+answer_issues_none : (fault : Record) (m : Moment) (pending : List Access) (absent : ℕ → Bool) →
+    issued_of (after_choice pending (answer_choice pending absent) fault m) ≡ issued_of m
+answer_issues_none fault m [] absent = refl
+answer_issues_none fault m (x ∷ xs) absent =
     by_test (absent (page_number x.addr)) (λ gone. rw gone refl) (λ there. rw there refl)
 
 pub answered_issues_none : (p : Program) (named : ℕ → Bool) (limit : ℕ) (m : Moment) (events : ℕ) →
@@ -72,7 +72,7 @@ unfolding moment_along after_letter situation_at
 answered_issues_none p named limit m zero = refl
 answered_issues_none p named limit m (suc k) =
     let before = answered_after p named limit m k in
-    answer_issues_none p (record_of p (situation_at p named limit before)) before
+    answer_issues_none (record_of p (situation_at p named limit before)) before
     (pending_at p before.retired before.done) (absent_at named before)
     ∙ answered_issues_none p named limit m k
 

@@ -1,4 +1,4 @@
--- What lies behind a moment stays so: it holds of the first moment, and each letter keeps it.
+-- What lies behind a moment stays so: it holds of the first moment, and each letter keeps it; and each letter is one event.
 use Rattle.std.specs.Prelude.{ℕ, zero, suc, Bool, true, false, List, [], ◌∷◌, Option, Some, None, ◌≡◌, ◌≢◌, ◌<◌, ◌≤◌, ◌+◌, ◌==◌, ◌&&◌, ◌||◌, length, if◌then◌else◌}
 use Rattle.std.proofs.Common.{arith, refl, sym, ap, subst, length-append}
 use Rattle.std.proofs.lemmas.Bool.{eqb-false, eqb-true, ltb-false}
@@ -140,7 +140,7 @@ by_choice : (p : Program) (limit : ℕ) (m : Moment) (choice : Choice) (fault : 
     Fits p m choice →
     HasRoom p limit m choice →
     (IsLastChoice choice → m.done ≡ transaction_count p m.retired) →
-    HasPast p limit (after_choice p choice fault m)
+    HasPast p limit (after_choice (pending_at p m.retired m.done) choice fault m)
 by_choice p limit m idles fault past fit room drained = past
 by_choice p limit m passes fault past fit room drained = record {
   within = past.within;
@@ -207,14 +207,19 @@ by_choice p limit m replies fault past fit room drained =
 by_choice p limit m faults fault past fit room drained =
     let told = past.counted in
     let more = length-append m.records (fault ∷ []) in
+    let left = length-drop m.done (transactions p m.retired) in
+    let most = past.pending in
     record {
       within = past.within;
       retired = past.retired;
-      pending = omega arith;
-      ended = λ ended. let end = past.ended ended in record { next = end.next; early = end.early; drained = refl };
+      pending = omega (arith, most);
+      ended = λ ended.
+          let end = past.ended ended in
+          let all = end.drained in
+          record { next = end.next; early = end.early; drained = omega (arith, left, all) };
       bubbled = past.bubbled;
       unbubbled = past.unbubbled;
-      counted = omega (arith, told, more, fit);
+      counted = omega (arith, told, more, left, fit);
       put_out = past.put_out;
     }
 by_choice p limit m evicts fault past fit room drained =
@@ -271,3 +276,24 @@ past_after p named limit schedule zero = opens_with p limit
 past_after p named limit schedule (suc k) =
     keeps_past p named limit (letter_at schedule k) (moment_after p named limit schedule k)
     (reached_within p named limit schedule k) (past_after p named limit schedule k)
+
+-- each event is counted
+choice_events : (pending : List Access) (choice : Choice) (fault : Record) (m : Moment) →
+    (after_choice pending choice fault m).events ≡ m.events
+choice_events pending idles fault m = refl
+choice_events pending passes fault m = refl
+choice_events pending (holds why) fault m = refl
+choice_events pending (issues change) fault m = refl
+choice_events pending (serves byte) fault m = refl
+choice_events pending (finishes stop) fault m = refl
+choice_events pending replies fault m = refl
+choice_events pending faults fault m = refl
+choice_events pending evicts fault m = refl
+
+pub letter_events : (p : Program) (named : ℕ → Bool) (limit : ℕ) (letter : Letter) (m : Moment) →
+    (after_letter p named limit letter m).events ≡ m.events + 1
+unfolding after_letter
+letter_events p named limit letter m =
+    ap (λ (n : ℕ). n + 1)
+    (choice_events (pending_at p m.retired m.done) (choice_of p letter (situation_at p named limit m))
+    (record_of p (situation_at p named limit m)) m)

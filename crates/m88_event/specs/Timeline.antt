@@ -1,11 +1,12 @@
 -- The timeline of a run: its moments, each a count of the instructions that are retired and one of the transactions
 -- that are done along the history of the sequential machine, and what a letter makes of one.
-use Rattle.std.specs.Prelude.{ℕ, zero, suc, Bool, true, false, not, List, [], ◌∷◌, ◌++◌, Option, Some, None, ◌+◌, ◌≤◌, ◌==◌, ◌&&◌, ◌||◌, if◌then◌else◌}
+use Rattle.std.specs.Prelude.{ℕ, zero, suc, Bool, true, false, not, List, [], ◌∷◌, ◌++◌, Option, Some, None, ◌+◌, ◌≤◌, ◌==◌, ◌&&◌, ◌||◌, length, if◌then◌else◌}
 use Rattle.m88_base.specs.Pages.{every_page}
 use Rattle.m88_base.specs.Slot.{no_slot}
 use Rattle.m88_base.specs.declared.slot.Slot.{Slot}
 use Rattle.m88_isa.specs.History.{pending_at, transaction_count}
 use Rattle.m88_isa.specs.Machine.{Program, Turn, changes, outputs, state, stops, turn_at}
+use Rattle.m88_isa.specs.declared.planned.Access.{Access}
 use Rattle.m88_event.specs.Choice.{Choice, choice_of, end_by, evicts, faults, finishes, holds, idles, issues, passes, replies, said, serves, touches_page}
 use Rattle.m88_event.specs.Shadow.{nip_of, retired_pointer}
 use Rattle.m88_event.specs.Situation.{Situation, record_of}
@@ -87,22 +88,22 @@ situation_at p named limit m = record {
   event = m.events + 1;
 }
 
--- what a choice makes of a moment, but for the count of events; a data fault leaves its record, supplies the pages of
--- all pending transactions and finishes these
-abbrev pub after_choice : Program → Choice → Record → Moment → Moment
-after_choice p idles fault m = m
-after_choice p passes fault m = record m { bubble = false }
-after_choice p (holds why) fault m = m
-after_choice p (issues change) fault m = record m { retired = m.retired + 1; bubble = change.bubble }
-after_choice p (serves byte) fault m = record m { retired = m.retired + 1; bubble = false }
-after_choice p (finishes stop) fault m = record m { ended = true }
-after_choice p replies fault m = record m { done = m.done + 1; answers = m.answers + 1 }
-after_choice p faults fault m = record m {
+-- what a choice makes of a moment with these pending transactions, but for the count of events; a data fault leaves
+-- its record, supplies the pages of all of them and finishes them
+abbrev pub after_choice : List Access → Choice → Record → Moment → Moment
+after_choice pending idles fault m = m
+after_choice pending passes fault m = record m { bubble = false }
+after_choice pending (holds why) fault m = m
+after_choice pending (issues change) fault m = record m { retired = m.retired + 1; bubble = change.bubble }
+after_choice pending (serves byte) fault m = record m { retired = m.retired + 1; bubble = false }
+after_choice pending (finishes stop) fault m = record m { ended = true }
+after_choice pending replies fault m = record m { done = m.done + 1; answers = m.answers + 1 }
+after_choice pending faults fault m = record m {
   records = m.records ++ (fault ∷ []);
-  supplied = λ page. m.supplied page || touches_page (pending_at p m.retired m.done) page;
-  done = transaction_count p m.retired;
+  supplied = λ page. m.supplied page || touches_page pending page;
+  done = m.done + length pending;
 }
-after_choice p evicts fault m = record m { evicted = true; supplied = λ page. false }
+after_choice pending evicts fault m = record m { evicted = true; supplied = λ page. false }
 
 -- one more event is counted
 abbrev pub with_event : Moment → Moment
@@ -119,7 +120,8 @@ record_at p named limit m = record_of p (situation_at p named limit m)
 -- the moment after a letter
 unfoldable pub after_letter : Program → (ℕ → Bool) → ℕ → Letter → Moment → Moment
 after_letter p named limit letter m =
-    with_event (after_choice p (choice_at p named limit letter m) (record_at p named limit m) m)
+    with_event (after_choice (pending_at p m.retired m.done) (choice_at p named limit letter m)
+    (record_at p named limit m) m)
 
 -- what the event of a letter says
 unfoldable pub said_at : Program → (ℕ → Bool) → ℕ → Letter → Moment → Happened

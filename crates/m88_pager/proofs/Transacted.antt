@@ -55,8 +55,8 @@ turn_done p n done turn more h =
     ap (take done) more ∙ take-append-le done (transactions p n) turn h ∙ none_done p n done
 
 by_choice : (p : Program) (m : Moment) (choice : Choice) (fault : Record) → m.done ≤ transaction_count p m.retired → Fits p m choice →
-    done_of p (after_choice p choice fault m)
-    ≡ done_of p m ++ take ((after_choice p choice fault m).done - m.done) (pending_at p m.retired m.done)
+    done_of p (after_choice (pending_at p m.retired m.done) choice fault m)
+    ≡ done_of p m ++ take ((after_choice (pending_at p m.retired m.done) choice fault m).done - m.done) (pending_at p m.retired m.done)
 by_choice p m idles fault made fit = none_done p m.retired m.done
 by_choice p m passes fault made fit = none_done p m.retired m.done
 by_choice p m (holds why) fault made fit = none_done p m.retired m.done
@@ -66,7 +66,8 @@ by_choice p m (serves byte) fault made fit =
     turn_done p m.retired m.done [] (more_transactions p m.retired (outputs byte) fit.0) made
 by_choice p m (finishes stop) fault made fit = none_done p m.retired m.done
 by_choice p m replies fault made fit = more_done p m.retired m.done (m.done + 1) (omega arith)
-by_choice p m faults fault made fit = more_done p m.retired m.done (transaction_count p m.retired) made
+by_choice p m faults fault made fit =
+    more_done p m.retired m.done (m.done + length (pending_at p m.retired m.done)) (omega arith)
 by_choice p m evicts fault made fit = none_done p m.retired m.done
 
 pub done_ahead : (p : Program) (named : ℕ → Bool) (limit : ℕ) (letter : Letter) (m : Moment) → DoneWereMade p m →
@@ -80,8 +81,8 @@ done_ahead p named limit letter m made =
 -- no fewer are done after it, and no more than were made
 done_by : (p : Program) (m : Moment) (choice : Choice) (fault : Record) → m.done ≤ transaction_count p m.retired →
     Fits p m choice →
-    (m.done ≤ (after_choice p choice fault m).done)
-    × ((after_choice p choice fault m).done ≤ transaction_count p m.retired)
+    (m.done ≤ (after_choice (pending_at p m.retired m.done) choice fault m).done)
+    × ((after_choice (pending_at p m.retired m.done) choice fault m).done ≤ transaction_count p m.retired)
 done_by p m idles fault made fit = (omega arith, made)
 done_by p m passes fault made fit = (omega arith, made)
 done_by p m (holds why) fault made fit = (omega arith, made)
@@ -89,7 +90,8 @@ done_by p m (issues change) fault made fit = (omega arith, made)
 done_by p m (serves byte) fault made fit = (omega arith, made)
 done_by p m (finishes stop) fault made fit = (omega arith, made)
 done_by p m replies fault made fit = (omega arith, omega (arith, fit))
-done_by p m faults fault made fit = (made, omega arith)
+done_by p m faults fault made fit =
+    let left = length-drop m.done (transactions p m.retired) in (omega arith, omega (arith, left, made))
 done_by p m evicts fault made fit = (omega arith, made)
 
 pub done_after : (p : Program) (named : ℕ → Bool) (limit : ℕ) (letter : Letter) (m : Moment) → DoneWereMade p m →

@@ -3,10 +3,9 @@ use Rattle.std.specs.Prelude.{ℕ, Bool, true, false, not, Option, Some, None, �
 use Rattle.std.proofs.Common.{arith, refl, sym, ap, subst, ◌∙◌}
 use Rattle.m88_isa.proofs.Laws.{by_test, some_from}
 use Rattle.m88_isa.specs.Machine.{Program}
-use Rattle.m88_event.specs.Choice.{Choice, evicts, faults, finishes, holds, idles, issues, passes, replies, serves}
-use Rattle.m88_event.specs.Timeline.{Moment, after_choice, after_letter, choice_at, is_drained, opening_moment, record_at}
+use Rattle.m88_event.proofs.Laws.{letter_events}
+use Rattle.m88_event.specs.Timeline.{Moment, is_drained, opening_moment}
 use Rattle.m88_event.specs.declared.letter.Letter.{Letter}
-use Rattle.m88_event.specs.declared.record.Record.{Record}
 use Rattle.m88_tasks.proofs.Choosing.{next_within, no_true, over_where_next, settled_lives, settled_within}
 use Rattle.m88_tasks.specs.Past.{HasSharedPast}
 use Rattle.m88_tasks.specs.Shared.{Group, SharedMoment, after_share, after_turn, all_over, first_alive, is_alone, moments_then, opening_shared, over_at, pending_in, switch_at, turn_at}
@@ -14,24 +13,6 @@ use Rattle.m88_tasks.specs.declared.letter.ShareLetter.{ShareLetter}
 use Rattle.m88_tasks.specs.declared.letter.ShareLetter.TheVariants as share
 use Rattle.m88_tasks.specs.declared.turned.Turned.{Turned}
 use Rattle.m88_tasks.specs.declared.turned.Turned.TheVariants as turned
-
--- each event is counted
-choice_events : (p : Program) (choice : Choice) (fault : Record) (m : Moment) → (after_choice p choice fault m).events ≡ m.events
-choice_events p idles fault m = refl
-choice_events p passes fault m = refl
-choice_events p (holds why) fault m = refl
-choice_events p (issues change) fault m = refl
-choice_events p (serves byte) fault m = refl
-choice_events p (finishes stop) fault m = refl
-choice_events p replies fault m = refl
-choice_events p faults fault m = refl
-choice_events p evicts fault m = refl
-
-letter_events : (p : Program) (named : ℕ → Bool) (limit : ℕ) (letter : Letter) (m : Moment) →
-    (after_letter p named limit letter m).events ≡ m.events + 1
-unfolding after_letter
-letter_events p named limit letter m =
-    ap (λ (n : ℕ). n + 1) (choice_events p (choice_at p named limit letter m) (record_at p named limit m) m)
 
 -- at first
 first_lives : (g : Group) (moments : ℕ → Moment) (found : Option ℕ) → first_alive g moments 0 g.count ≡ found →

@@ -117,24 +117,24 @@ said_faulted faults fault was e = refl
 said_faulted evicts fault was e = absurd cc
 
 -- an event of `i` that issues, puts out and ends nothing adds nothing
-turn_tells : (p : Program) (turn : Turn) (fault : Record) (m : Moment) →
+turn_tells : (turn : Turn) (fault : Record) (m : Moment) →
     happened.Issued ≢ said (turn_choice turn) fault →
     ((byte : ℕ) → happened.Served byte ≢ said (turn_choice turn) fault) →
     ((end : End) → happened.Ended end ≢ said (turn_choice turn) fault) →
     ⊥
-turn_tells p (changes change) fault m issued served ended = issued refl
-turn_tells p (outputs byte) fault m issued served ended = served byte refl
-turn_tells p (stops stop) fault m issued served ended = ended (end_by stop) refl
+turn_tells (changes change) fault m issued served ended = issued refl
+turn_tells (outputs byte) fault m issued served ended = served byte refl
+turn_tells (stops stop) fault m issued served ended = ended (end_by stop) refl
 
-issue_tells : (p : Program) (idle bubble : Bool) (why : Option Hold) (turn : Turn) (fault : Record) (m : Moment) →
+issue_tells : (pending : List Access) (idle bubble : Bool) (why : Option Hold) (turn : Turn) (fault : Record) (m : Moment) →
     happened.Issued ≢ said (issue_choice idle bubble why turn) fault →
     ((byte : ℕ) → happened.Served byte ≢ said (issue_choice idle bubble why turn) fault) →
     ((end : End) → happened.Ended end ≢ said (issue_choice idle bubble why turn) fault) →
-    told_of (after_choice p (issue_choice idle bubble why turn) fault m) ≡ told_of m
-issue_tells p true bubble why turn fault m issued served ended = refl
-issue_tells p false true why turn fault m issued served ended = refl
-issue_tells p false false (Some hold) turn fault m issued served ended = refl
-issue_tells p false false None turn fault m issued served ended = absurd (turn_tells p turn fault m issued served ended)
+    told_of (after_choice pending (issue_choice idle bubble why turn) fault m) ≡ told_of m
+issue_tells pending true bubble why turn fault m issued served ended = refl
+issue_tells pending false true why turn fault m issued served ended = refl
+issue_tells pending false false (Some hold) turn fault m issued served ended = refl
+issue_tells pending false false None turn fault m issued served ended = absurd (turn_tells turn fault m issued served ended)
 
 pub issue_quiet : (p : Program) (named : ℕ → Bool) (limit : ℕ) (m : Moment) →
     happened.Issued ≢ said_at p named limit Issue m →
@@ -148,19 +148,19 @@ issue_quiet p named limit m issued served ended =
     let why = held (instruction_at p (state p m.retired).pc) turn (pending_at p m.retired m.done) in
     let shown = choice_shown p named limit m in
     let fault = record_at p named limit m in
-    ap (λ (c : Choice). told_of (after_choice p c fault m)) shown
-    ∙ issue_tells p idle m.bubble why turn fault m
+    ap (λ (c : Choice). told_of (after_choice (pending_at p m.retired m.done) c fault m)) shown
+    ∙ issue_tells (pending_at p m.retired m.done) idle m.bubble why turn fault m
     (subst (λ (c : Choice). happened.Issued ≢ said c fault) shown issued)
     (subst (λ (c : Choice). (byte : ℕ) → happened.Served byte ≢ said c fault) shown served)
     (subst (λ (c : Choice). (end : End) → happened.Ended end ≢ said c fault) shown ended)
 
 -- an event of `r` that answers and faults nothing adds nothing
-answer_tells : (p : Program) (pending : List Access) (absent : ℕ → Bool) (fault : Record) (m : Moment) →
+answer_tells : (pending : List Access) (absent : ℕ → Bool) (fault : Record) (m : Moment) →
     happened.Answered ≢ said (answer_choice pending absent) fault →
     ((was : Record) → happened.Faulted was ≢ said (answer_choice pending absent) fault) →
-    told_of (after_choice p (answer_choice pending absent) fault m) ≡ told_of m
-answer_tells p [] absent fault m answered faulted = refl
-answer_tells p (x ∷ pending) absent fault m answered faulted = by_test (absent (page_number x.addr))
+    told_of (after_choice pending (answer_choice pending absent) fault m) ≡ told_of m
+answer_tells [] absent fault m answered faulted = refl
+answer_tells (x ∷ pending) absent fault m answered faulted = by_test (absent (page_number x.addr))
     (λ gone. absurd (faulted fault (rw gone refl)))
     (λ there. absurd (answered (rw there refl)))
 
@@ -170,15 +170,16 @@ pub answer_quiet : (p : Program) (named : ℕ → Bool) (limit : ℕ) (m : Momen
     told_of (after_letter p named limit Answer m) ≡ told_of m
 unfolding said_at after_letter situation_at
 answer_quiet p named limit m answered faulted =
-    answer_tells p (pending_at p m.retired m.done) (absent_at named m) (record_at p named limit m) m answered faulted
+    answer_tells (pending_at p m.retired m.done) (absent_at named m) (record_at p named limit m) m answered faulted
 
 -- what a letter whose choice is known tells
 pub told_by : (p : Program) (named : ℕ → Bool) (limit : ℕ) (letter : Letter) (m : Moment) (choice : Choice) →
     choice_at p named limit letter m ≡ choice →
-    told_of (after_letter p named limit letter m) ≡ told_of (after_choice p choice (record_at p named limit m) m)
+    told_of (after_letter p named limit letter m)
+    ≡ told_of (after_choice (pending_at p m.retired m.done) choice (record_at p named limit m) m)
 unfolding after_letter
 told_by p named limit letter m choice e =
-    ap (λ (c : Choice). told_of (after_choice p c (record_at p named limit m) m)) e
+    ap (λ (c : Choice). told_of (after_choice (pending_at p m.retired m.done) c (record_at p named limit m) m)) e
 
 -- the words of memory once all that is pending at a moment is done are those of the state
 pub words_then : (p : Program) (n done : ℕ) → IsProgram p → bus_after_all (pending_at p n done) (bus_at p n done)
