@@ -11,7 +11,7 @@ use Rattle.std.proofs.lemmas.Nat.Bits.{bit_at-zero}
 use Rattle.m88_base.specs.Image.{ProgramImage}
 use Rattle.m88_base.specs.Pages.{page_count, page_number}
 use Rattle.m88_mem.proofs.Words.{bus_by, marked_with, marked_without}
-use Rattle.m88_mem.specs.DataBus.{MemoryView, bus_of, image_bus, page_words, ready_of, word_of}
+use Rattle.m88_mem.specs.DataBus.{MemoryView, bus_of, image_bus, page_words, ready_of, word_in_page}
 use Rattle.m88_mem.specs.Inside.Changes.{GoesOver, HasComeTo}
 use Rattle.m88_mem.specs.Inside.Frames.{by_page, frame_at, frame_in, is_in, is_marked, mark_words, seen_as, table_entries, tabulated, with_frame, word_at, word_in, words_in}
 use Rattle.m88_mem.specs.Marks.{with_page}
@@ -51,7 +51,7 @@ no_mark_past words long p past =
     rw none (ap (λ n. n == 1) (bit_at-zero (p % 32)))
 
 -- the words of a frame
-same_word : (frame : Option PageFrame) (place : ℕ) → word_of (words_in frame) place ≡ word_in frame place
+same_word : (frame : Option PageFrame) (place : ℕ) → word_in_page (words_in frame) place ≡ word_in frame place
 unfolding word_in
 same_word None place = refl
 same_word (Some frame) place = refl
@@ -70,7 +70,7 @@ pub seen_bus : (image : ProgramImage) (tables : List (Option FrameTable)) (absen
     bus_of (seen_as image tables absent) ≡ bus_by (word_at tables) (image_bus image)
 unfolding bus_of
 seen_bus image tables absent long = fun_ext (λ a.
-    ap (λ page. unwrap_or (word_of page (a / 4 % page_words)) (image_bus image a)) (seen_page tables long (page_number a))
+    ap (λ page. unwrap_or (word_in_page page (a / 4 % page_words)) (image_bus image a)) (seen_page tables long (page_number a))
     ∙ ap (λ word. unwrap_or word (image_bus image a)) (same_word (frame_at tables (page_number a)) (a / 4 % page_words)))
 
 pub seen_ready : (image : ProgramImage) (tables : List (Option FrameTable)) (absent : List Bool) → length tables ≡ table_entries →
@@ -137,7 +137,7 @@ frame_word m image tables absent seen long page place word addr words there got 
     let at : addr / 4 % page_words ≡ place = omega (arith, is, low) in
     let found : word_at tables (page_number addr) (addr / 4 % page_words) ≡ Some word =
     ap (λ p. word_at tables p (addr / 4 % page_words)) high ∙ ap (λ k. word_at tables page k) at
-    ∙ sym (same_word (frame_at tables page) place) ∙ ap (λ o. word_of o place) there ∙ got in
+    ∙ sym (same_word (frame_at tables page) place) ∙ ap (λ o. word_in_page o place) there ∙ got in
     sym (ap (λ read. read addr) bus ∙ ap (λ o. unwrap_or o (image_bus image addr)) found)
 
 -- a walk goes over the words of such a page

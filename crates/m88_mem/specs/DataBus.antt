@@ -24,14 +24,14 @@ abbrev pub image_bus : ProgramImage → ℕ → ℕ
 image_bus image = in_words (image_bytes image)
 
 -- a word of a page by its place, where the page is ready
-abbrev pub word_of : Option (List ℕ) → ℕ → Option ℕ
-word_of None place = None
-word_of (Some words) place = slice_get words place
+abbrev pub word_in_page : Option (List ℕ) → ℕ → Option ℕ
+word_in_page None place = None
+word_in_page (Some words) place = slice_get words place
 
 -- the data bus: at each address the word that the address lies in
 unfoldable pub bus_of : MemoryView → ℕ → ℕ
 bus_of m a =
-    unwrap_or (word_of (slice_index_or m.pages (page_number a) None) (a / 4 % page_words)) (image_bus m.image a)
+    unwrap_or (word_in_page (slice_index_or m.pages (page_number a) None) (a / 4 % page_words)) (image_bus m.image a)
 
 -- a page is ready: no store to it needs memory
 unfoldable pub ready_of : MemoryView → ℕ → Bool
