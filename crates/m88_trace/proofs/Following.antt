@@ -22,9 +22,9 @@ use Rattle.m88_isa.specs.Vector.{unimplemented}
 use Rattle.m88_isa.specs.Word.{IsWord}
 use Rattle.m88_isa.specs.declared.instr.Instr.{Instr}
 use Rattle.m88_isa.specs.declared.planned.Access.{Access}
-use Rattle.m88_trace.specs.Inside.Doings.{Seen, after_doing, doing_line, doing_of, ends_by, seen_at}
+use Rattle.m88_trace.specs.Inside.Doings.{Seen, after_doing, doing_line, doing_of, ends_by, seen_at_state}
 use Rattle.m88_trace.specs.Lines.{accesses_text, datum_by, head_text, turn_line, written_text}
-use Rattle.m88_trace.specs.Trace.{line_at, word_at}
+use Rattle.m88_trace.specs.Trace.{trace_line_at, program_word_at}
 use Rattle.m88_trace.specs.declared.doing.Doing.{Doing}
 use Rattle.m88_trace.specs.declared.doing.Doing.TheVariants.{Ends}
 
@@ -48,8 +48,8 @@ same_end (stops stop) = refl
 abbrev seen_by : Completed → Seen
 seen_by c = record { regs = c.regs; carry = c.carry; pc = c.pc; next = c.next; bus = c.bus }
 
-seen_completed : (s : State) → seen_at s ≡ seen_by (completed_state s)
-unfolding seen_at completed_state
+seen_completed : (s : State) → seen_at_state s ≡ seen_by (completed_state s)
+unfolding seen_at_state completed_state
 seen_completed s = refl
 
 after_by : (turn : Turn) (c : Completed) → TurnFits turn →
@@ -68,18 +68,18 @@ doing_fits p n is = turn_fits p (state p n).regs (state p n).carry (state p n).m
 
 -- what the code has of the next instruction goes on to the next state
 pub next_seen : (p : Program) (n : ℕ) → IsProgram p →
-    seen_at (state p (n + 1)) ≡ after_doing (doing_of (turn_at p (state p n))) (seen_at (state p n))
+    seen_at_state (state p (n + 1)) ≡ after_doing (doing_of (turn_at p (state p n))) (seen_at_state (state p n))
 next_seen p n is =
-    ap (λ k. seen_at (state p k)) (add-one n)
+    ap (λ k. seen_at_state (state p k)) (add-one n)
     ∙ seen_completed (state p (suc n))
     ∙ ap seen_by (state_agrees p n is)
     ∙ after_by (turn_at p (state p n)) (completed_state (state p n)) (doing_fits p n is)
     ∙ ap (after_doing (doing_of (turn_at p (state p n)))) (sym (seen_completed (state p n)))
 
 -- the turn by what a follower has is that of the state
-pub turn_seen : (p : Program) (n : ℕ) (f : Seen) → p.mxm ≡ false → f ≡ seen_at (state p n) →
+pub turn_seen : (p : Program) (n : ℕ) (f : Seen) → p.mxm ≡ false → f ≡ seen_at_state (state p n) →
     turn p f.regs f.carry false f.pc f.next ≡ turn_at p (state p n)
-unfolding seen_at
+unfolding seen_at_state
 turn_seen p n f clear same =
     ap (λ (s : Seen). turn p s.regs s.carry false s.pc s.next) same
     ∙ ap (λ (mxm : Bool). turn p (state p n).regs (state p n).carry mxm (state p n).pc (state p n).next)
@@ -89,8 +89,8 @@ turn_seen p n f clear same =
 pub word_is : (p : Program) (image : ProgramImage) (a : ℕ) (word : Option ℕ) → IsProgramOf image p →
     unwrap_or word 0 < 2 ^ 32 →
     option_map (λ w. to_be_bytes w32 w) word ≡ four_bytes (byte_at image) a →
-    unwrap_or word 0 ≡ word_at p a
-unfolding word_at
+    unwrap_or word 0 ≡ program_word_at p a
+unfolding program_word_at
 word_is p image a None of small fetched =
     ap (λ (o : Option (List ℕ)). from_be_bytes w32 (unwrap_or o []))
     (fetched ∙ ap (λ (byte : ℕ → Option ℕ). four_bytes byte a) (sym of.bytes))
@@ -162,26 +162,26 @@ turn_read p image regs carry pc next word fetch i of aligned small some h is onl
     (found_there (p.instruction pc) i word (instruction_at_word image p pc word of aligned small there) is only)
 
 -- what a follower wrote and sees behind a step
-pub line_is : (p : Program) (n : ℕ) (f : Seen) (word : ℕ) → IsProgram p → p.mxm ≡ false → f ≡ seen_at (state p n) →
-    word ≡ word_at p f.pc →
-    doing_line n f.pc word (doing_of (turn p f.regs f.carry false f.pc f.next)) f.bus ≡ line_at p n (state p n)
-unfolding seen_at
+pub line_is : (p : Program) (n : ℕ) (f : Seen) (word : ℕ) → IsProgram p → p.mxm ≡ false → f ≡ seen_at_state (state p n) →
+    word ≡ program_word_at p f.pc →
+    doing_line n f.pc word (doing_of (turn p f.regs f.carry false f.pc f.next)) f.bus ≡ trace_line_at p n (state p n)
+unfolding seen_at_state
 line_is p n f word is clear same words =
     same_line n f.pc word (turn p f.regs f.carry false f.pc f.next) f.bus
     (turn_fits p f.regs f.carry false f.pc f.next is)
     ∙ ap₂ (λ (w : ℕ) (t : Turn). turn_line n f.pc w t f.bus) words (turn_seen p n f clear same)
-    ∙ ap (λ (s : Seen). turn_line n s.pc (word_at p s.pc) (turn_at p (state p n)) s.bus) same
+    ∙ ap (λ (s : Seen). turn_line n s.pc (program_word_at p s.pc) (turn_at p (state p n)) s.bus) same
 
 -- what is seen behind a step
-pub seen_is : (p : Program) (n : ℕ) (f new : Seen) → IsProgram p → p.mxm ≡ false → f ≡ seen_at (state p n) →
+pub seen_is : (p : Program) (n : ℕ) (f new : Seen) → IsProgram p → p.mxm ≡ false → f ≡ seen_at_state (state p n) →
     new ≡ after_doing (doing_of (turn p f.regs f.carry false f.pc f.next)) f →
-    new ≡ seen_at (state p (n + 1))
+    new ≡ seen_at_state (state p (n + 1))
 seen_is p n f new is clear same goes =
     goes
     ∙ ap₂ (λ (t : Turn) (s : Seen). after_doing (doing_of t) s) (turn_seen p n f clear same) same
     ∙ sym (next_seen p n is)
 
-pub end_is : (p : Program) (n : ℕ) (f : Seen) → p.mxm ≡ false → f ≡ seen_at (state p n) →
+pub end_is : (p : Program) (n : ℕ) (f : Seen) → p.mxm ≡ false → f ≡ seen_at_state (state p n) →
     ends_by (doing_of (turn p f.regs f.carry false f.pc f.next)) ≡ is_stop (turn_at p (state p n))
 end_is p n f clear same = same_end (turn p f.regs f.carry false f.pc f.next) ∙ ap is_stop (turn_seen p n f clear same)
 
@@ -199,8 +199,8 @@ pub opens : (p : Program) (image : ProgramImage) (start : ℕ) (bus : ℕ → �
       pc = word_address start;
       next = after_bytes (word_address start) 4;
       bus = bus;
-    } ≡ seen_at (opening p)
-unfolding seen_at opening image_bytes
+    } ≡ seen_at_state (opening p)
+unfolding seen_at_state opening image_bytes
 opens p image start bus of starts words =
     let here = starts ∙ sym of.start in
     let bytes = words ∙ ap (λ (byte : ℕ → Option ℕ). in_words (λ a. unwrap_or (byte a) 0)) (sym of.bytes) in

@@ -9,8 +9,8 @@ use Rattle.m88_isa.specs.Held.{is_stop}
 use Rattle.m88_isa.specs.History.{change_accesses}
 use Rattle.m88_isa.specs.Machine.{Program, Turn, changes, outputs, state, stops, turn_at}
 use Rattle.m88_trace.specs.Lines.{accesses_text, head_text, output_text, turn_line, written_text}
-use Rattle.m88_trace.specs.Texts.{HasLines, text_of}
-use Rattle.m88_trace.specs.Trace.{is_ended, line_at, trace_line}
+use Rattle.m88_trace.specs.Texts.{HasLines, text_of_first}
+use Rattle.m88_trace.specs.Trace.{is_ended, trace_line_at, trace_line}
 
 -- a text that ends with a byte isn't empty
 some_last : (xs : List ℕ) (x : ℕ) → xs ++ x ∷ [] ≢ []
@@ -31,10 +31,10 @@ line_if false bytes some e = some cc
 
 pub some_line : (p : Program) (k : ℕ) → trace_line p k ≢ Some []
 unfolding trace_line
-some_line p k = line_if (is_ended p k) (line_at p k (state p k)) (some_turn k _ _ _ _)
+some_line p k = line_if (is_ended p k) (trace_line_at p k (state p k)) (some_turn k _ _ _ _)
 
 -- the line of a step, and none behind the end
-pub line_there : (p : Program) (k : ℕ) → is_ended p k ≡ false → trace_line p k ≡ Some (line_at p k (state p k))
+pub line_there : (p : Program) (k : ℕ) → is_ended p k ≡ false → trace_line p k ≡ Some (trace_line_at p k (state p k))
 unfolding trace_line
 line_there p k h = rw h refl
 
@@ -90,18 +90,18 @@ past_none p n more stop =
     line_past p (n + 1 + more) (subst (λ k. is_ended p k ≡ true) e (stays_stopped p n more stop))
 
 text_stays : (p : Program) (n more : ℕ) → is_stop (turn_at p (state p n)) ≡ true →
-    text_of (trace_line p) (n + 1 + more) ≡ text_of (trace_line p) (n + 1)
-unfolding text_of
-text_stays p n zero stop = let e : n + 1 + 0 ≡ n + 1 = omega arith in ap (text_of (trace_line p)) e
+    text_of_first (trace_line p) (n + 1 + more) ≡ text_of_first (trace_line p) (n + 1)
+unfolding text_of_first
+text_stays p n zero stop = let e : n + 1 + 0 ≡ n + 1 = omega arith in ap (text_of_first (trace_line p)) e
 text_stays p n (suc more) stop =
     let e : n + 1 + suc more ≡ suc (n + 1 + more) = omega arith in
-    ap (text_of (trace_line p)) e
-    ∙ ap (λ o. text_of (trace_line p) (n + 1 + more) ++ unwrap_or o []) (past_none p n more stop)
-    ∙ append-nil (text_of (trace_line p) (n + 1 + more))
+    ap (text_of_first (trace_line p)) e
+    ∙ ap (λ o. text_of_first (trace_line p) (n + 1 + more) ++ unwrap_or o []) (past_none p n more stop)
+    ∙ append-nil (text_of_first (trace_line p) (n + 1 + more))
     ∙ text_stays p n more stop
 
 pub text_past : (p : Program) (n limit : ℕ) → is_stop (turn_at p (state p n)) ≡ true → n < limit →
-    text_of (trace_line p) (n + 1) ≡ text_of (trace_line p) limit
+    text_of_first (trace_line p) (n + 1) ≡ text_of_first (trace_line p) limit
 text_past p n limit stop early =
     let e : n + 1 + (limit - n - 1) ≡ limit = omega (arith, early) in
-    sym (text_stays p n (limit - n - 1) stop) ∙ ap (text_of (trace_line p)) e
+    sym (text_stays p n (limit - n - 1) stop) ∙ ap (text_of_first (trace_line p)) e

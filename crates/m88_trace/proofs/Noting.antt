@@ -36,9 +36,9 @@ use Rattle.m88_trace.proofs.Nexts.{choice_shown, not_over_bubble, not_over_bubbl
 use Rattle.m88_trace.proofs.Verdicts.{text_more}
 use Rattle.m88_trace.specs.Inside.Doings.{doing_line, doing_of}
 use Rattle.m88_trace.specs.Inside.Running.{IsNext, IsTraced}
-use Rattle.m88_trace.specs.Inside.Sheets.{AreData, AreDue, HasAdded, HasFilled, HasFilledAll, three_of, waiting_of, written_by}
-use Rattle.m88_trace.specs.Texts.{text_of}
-use Rattle.m88_trace.specs.Trace.{line_at, trace_line, word_at}
+use Rattle.m88_trace.specs.Inside.Sheets.{AreData, AreDue, HasAdded, HasFilled, HasFilledAll, three_of, sheet_accesses, sheet_text}
+use Rattle.m88_trace.specs.Texts.{text_of_first}
+use Rattle.m88_trace.specs.Trace.{trace_line_at, trace_line, program_word_at}
 use Rattle.m88_trace.specs.declared.doing.Doing.TheVariants.{Goes, Outputs}
 use Rattle.m88_trace.specs.declared.sheet.Data.{Data}
 use Rattle.m88_trace.specs.declared.sheet.Sheet.{Sheet}
@@ -51,9 +51,9 @@ told_of m = (m.retired, m.done, m.ended)
 pub traced_same : (p : Program) (m n : Moment) (s : Sheet) → told_of m ≡ told_of n → IsTraced p n s → IsTraced p m s
 traced_same p m n s same traced = record {
   text =
-      ap (λ (t : ℕ × ℕ × Bool). written_by s (bus_at p t.0 t.1)) same
+      ap (λ (t : ℕ × ℕ × Bool). sheet_text s (bus_at p t.0 t.1)) same
       ∙ traced.text
-      ∙ ap (λ (t : ℕ × ℕ × Bool). text_of (trace_line p) (t.0 + one_if t.2)) (sym same);
+      ∙ ap (λ (t : ℕ × ℕ × Bool). text_of_first (trace_line p) (t.0 + one_if t.2)) (sym same);
   waiting = traced.waiting ∙ ap (λ (t : ℕ × ℕ × Bool). pending_at p t.0 t.1) (sym same);
 }
 
@@ -203,12 +203,12 @@ more_waits p n done turn e h =
 
 -- the text with one line more
 one_line : (p : Program) (m : Moment) (limit : ℕ) → HasPast p limit m → m.ended ≡ false →
-    text_of (trace_line p) (m.retired + 1) ≡ text_of (trace_line p) (m.retired + one_if m.ended)
-    ++ line_at p m.retired (state p m.retired)
+    text_of_first (trace_line p) (m.retired + 1) ≡ text_of_first (trace_line p) (m.retired + one_if m.ended)
+    ++ trace_line_at p m.retired (state p m.retired)
 one_line p m limit past lives =
-    text_more (trace_line p) m.retired (line_at p m.retired (state p m.retired))
+    text_more (trace_line p) m.retired (trace_line_at p m.retired (state p m.retired))
     (line_there p m.retired (not_ended_at p m.retired past.retired))
-    ∙ ap (λ k. text_of (trace_line p) k ++ line_at p m.retired (state p m.retired))
+    ∙ ap (λ k. text_of_first (trace_line p) k ++ trace_line_at p m.retired (state p m.retired))
     (let none : m.retired ≡ m.retired + one_if false = omega arith in
     none ∙ ap (λ (b : Bool). m.retired + one_if b) (sym lives))
 
@@ -217,19 +217,19 @@ line_of_turn : (p : Program) (m : Moment) (number at word : ℕ) (turn : Turn) �
     turn_at p (state p m.retired) ≡ turn →
     number ≡ m.retired →
     at ≡ (state p m.retired).pc →
-    word ≡ word_at p (state p m.retired).pc →
+    word ≡ program_word_at p (state p m.retired).pc →
     doing_line number at word (doing_of turn)
     (bus_after_all (pending_at p m.retired m.done) (bus_at p m.retired m.done))
-    ≡ line_at p m.retired (state p m.retired)
+    ≡ trace_line_at p m.retired (state p m.retired)
 line_of_turn p m number at word turn is e numbers here words =
     ap₂ (λ (k : ℕ) (a : ℕ). doing_line k a word (doing_of turn)
     (bus_after_all (pending_at p m.retired m.done) (bus_at p m.retired m.done)))
     numbers here
     ∙ ap₂ (λ (w : ℕ) (bus : ℕ → ℕ). doing_line m.retired (state p m.retired).pc w (doing_of turn) bus) words
     (words_then p m.retired m.done is)
-    ∙ ap (λ (t : Turn). doing_line m.retired (state p m.retired).pc (word_at p (state p m.retired).pc) (doing_of t)
+    ∙ ap (λ (t : Turn). doing_line m.retired (state p m.retired).pc (program_word_at p (state p m.retired).pc) (doing_of t)
     (in_words (state p m.retired).memory)) (sym e)
-    ∙ same_line m.retired (state p m.retired).pc (word_at p (state p m.retired).pc) (turn_at p (state p m.retired))
+    ∙ same_line m.retired (state p m.retired).pc (program_word_at p (state p m.retired).pc) (turn_at p (state p m.retired))
     (in_words (state p m.retired).memory)
     (doing_fits p m.retired is)
 
@@ -243,25 +243,25 @@ pub traced_step : (p : Program) (limit : ℕ) (m n : Moment) (old new : Sheet) (
     told_of n ≡ (m.retired + 1, m.done, m.ended) →
     number ≡ m.retired →
     at ≡ (state p m.retired).pc →
-    word ≡ word_at p (state p m.retired).pc →
-    ((bus : ℕ → ℕ) → written_by new bus
-    ≡ written_by old bus ++ doing_line number at word (doing_of turn) (bus_after_all (waiting_of old) bus)) →
-    waiting_of new ≡ waiting_of old ++ turn_accesses turn →
+    word ≡ program_word_at p (state p m.retired).pc →
+    ((bus : ℕ → ℕ) → sheet_text new bus
+    ≡ sheet_text old bus ++ doing_line number at word (doing_of turn) (bus_after_all (sheet_accesses old) bus)) →
+    sheet_accesses new ≡ sheet_accesses old ++ turn_accesses turn →
     IsTraced p m old →
     IsTraced p n new
 traced_step p limit m n old new number at word turn is past made e lives told numbers here words writes waits traced =
     let bus = bus_at p m.retired m.done in
     traced_same p n (record m { retired = m.retired + 1 }) new told (record {
       text =
-          ap (written_by new) (same_words p m.retired m.done turn e made)
+          ap (sheet_text new) (same_words p m.retired m.done turn e made)
           ∙ writes bus
           ∙ ap₂ (λ (xs : List ℕ) (as' : List Access). xs ++ doing_line number at word (doing_of turn)
           (bus_after_all as' bus)) traced.text traced.waiting
-          ∙ ap (λ (xs : List ℕ). text_of (trace_line p) (m.retired + one_if m.ended) ++ xs)
+          ∙ ap (λ (xs : List ℕ). text_of_first (trace_line p) (m.retired + one_if m.ended) ++ xs)
           (line_of_turn p m number at word turn is e numbers here words)
           ∙ sym (one_line p m limit past lives)
           ∙ (let none : m.retired + 1 ≡ m.retired + 1 + one_if false = omega arith in
-          ap (text_of (trace_line p)) (none ∙ ap (λ (b : Bool). m.retired + 1 + one_if b) (sym lives)));
+          ap (text_of_first (trace_line p)) (none ∙ ap (λ (b : Bool). m.retired + 1 + one_if b) (sym lives)));
       waiting =
           waits
           ∙ ap (λ (xs : List Access). xs ++ turn_accesses turn) traced.waiting
@@ -275,8 +275,8 @@ pub traced_end : (p : Program) (limit : ℕ) (m n : Moment) (old new : Sheet) (s
     m.ended ≡ false →
     told_of n ≡ (m.retired, m.done, true) →
     end ≡ end_by stop →
-    ((bus : ℕ → ℕ) → written_by new bus ≡ written_by old bus ++ doing_line 0 0 0 (doing_of (stops stop)) bus) →
-    waiting_of new ≡ waiting_of old →
+    ((bus : ℕ → ℕ) → sheet_text new bus ≡ sheet_text old bus ++ doing_line 0 0 0 (doing_of (stops stop)) bus) →
+    sheet_accesses new ≡ sheet_accesses old →
     IsTraced p m old →
     IsTraced p n new
 traced_end p limit m n old new stop end is past e lives told ends writes waits traced =
@@ -285,8 +285,8 @@ traced_end p limit m n old new stop end is past e lives told ends writes waits t
       text =
           writes bus
           ∙ ap (λ (xs : List ℕ). xs ++ doing_line 0 0 0 (doing_of (stops stop)) bus) traced.text
-          ∙ ap (λ (xs : List ℕ). text_of (trace_line p) (m.retired + one_if m.ended) ++ xs)
-          (line_of_turn p m m.retired (state p m.retired).pc (word_at p (state p m.retired).pc) (stops stop) is e refl
+          ∙ ap (λ (xs : List ℕ). text_of_first (trace_line p) (m.retired + one_if m.ended) ++ xs)
+          (line_of_turn p m m.retired (state p m.retired).pc (program_word_at p (state p m.retired).pc) (stops stop) is e refl
           refl refl)
           ∙ sym (one_line p m limit past lives);
       waiting = waits ∙ traced.waiting;
@@ -310,15 +310,15 @@ answered_words p n done = rw add-one (
     ∙ bus_of_append (take done (transactions p n)) (take 1 (pending_at p n done)) (in_words (opening p).memory))
 
 pub traced_answer : (p : Program) (m n : Moment) (old new : Sheet) → told_of n ≡ (m.retired, m.done + 1, m.ended) →
-    written_by new (bus_after_all (take 1 (waiting_of old)) (bus_at p m.retired m.done))
-    ≡ written_by old (bus_at p m.retired m.done) →
-    waiting_of new ≡ drop 1 (waiting_of old) →
+    sheet_text new (bus_after_all (take 1 (sheet_accesses old)) (bus_at p m.retired m.done))
+    ≡ sheet_text old (bus_at p m.retired m.done) →
+    sheet_accesses new ≡ drop 1 (sheet_accesses old) →
     IsTraced p m old →
     IsTraced p n new
 traced_answer p m n old new told writes waits traced =
     traced_same p n (record m { done = m.done + 1 }) new told (record {
       text =
-          ap (written_by new)
+          ap (sheet_text new)
           (answered_words p m.retired m.done
           ∙ ap (λ (xs : List Access). bus_after_all (take 1 xs) (bus_at p m.retired m.done)) (sym traced.waiting))
           ∙ writes
@@ -333,8 +333,8 @@ traced_answer p m n old new told writes waits traced =
 -- all that is pending is done, and all data are written
 pub traced_fault : (p : Program) (m n : Moment) (old new : Sheet) →
     told_of n ≡ (m.retired, transaction_count p m.retired, m.ended) →
-    ((after : ℕ → ℕ) → written_by new after ≡ written_by old (bus_at p m.retired m.done)) →
-    waiting_of new ≡ [] →
+    ((after : ℕ → ℕ) → sheet_text new after ≡ sheet_text old (bus_at p m.retired m.done)) →
+    sheet_accesses new ≡ [] →
     IsTraced p m old →
     IsTraced p n new
 traced_fault p m n old new told writes waits traced =
@@ -345,7 +345,7 @@ traced_fault p m n old new told writes waits traced =
 
 -- three transactions at most are pending
 pub few_wait : (p : Program) (limit : ℕ) (m : Moment) (s : Sheet) → HasPast p limit m → IsTraced p m s →
-    length (waiting_of s) ≤ 3
+    length (sheet_accesses s) ≤ 3
 few_wait p limit m s past traced =
     let few = past.pending in
     let left = length-drop m.done (transactions p m.retired) in
@@ -353,8 +353,8 @@ few_wait p limit m s past traced =
     omega (arith, few, left, same)
 
 -- the word that an event tells is the one of the history
-pub word_told : (p : Program) (a word : ℕ) → IsWordOf (four_bytes p.byte a) word → word ≡ word_at p a
-unfolding word_at
+pub word_told : (p : Program) (a word : ℕ) → IsWordOf (four_bytes p.byte a) word → word ≡ program_word_at p a
+unfolding program_word_at
 word_told p a word told =
     sym (from_be_bytes-to_be_bytes_4 word told.0)
     ∙ ap (λ (o : Option (List ℕ)). from_be_bytes w32 (unwrap_or o [])) (sym told.1)
@@ -384,7 +384,7 @@ issued_note p named limit m old new next told is past made seen tells says adds 
     (told_by p named limit Issue m (issues change) found.1) seen.number (seen.place straight)
     (word_told p (state p m.retired).pc told.word (tells.word tt))
     added.text
-    (added.waiting ∙ ap (λ (xs : List Access). waiting_of old ++ xs)
+    (added.waiting ∙ ap (λ (xs : List Access). sheet_accesses old ++ xs)
     (listed_recorded change.touches unit.short)) traced
 
 -- a byte was put out
@@ -443,8 +443,8 @@ ended_note p named limit m old new end is past says added traced =
     traced_end p limit m (after_letter p named limit Issue m) old new stop end is past fit
     (lives_ended p named limit m stop choice)
     (told_by p named limit Issue m (finishes stop) choice) found.2
-    (λ bus. added.text bus ∙ ap (λ (e : End). written_by old bus ++ run_end_line e) found.2)
-    (added.waiting ∙ append-nil (waiting_of old)) traced
+    (λ bus. added.text bus ∙ ap (λ (e : End). sheet_text old bus ++ run_end_line e) found.2)
+    (added.waiting ∙ append-nil (sheet_accesses old)) traced
 
 -- a fault comes only where the choice is that
 pub fault_chosen : (p : Program) (named : ℕ → Bool) (limit : ℕ) (m : Moment) (was : Record) →
@@ -501,10 +501,10 @@ evicted_note p named limit m s = traced_same p (after_letter p named limit Evict
 -- data by the words that a board has now
 pub data_at : (p : Program) (named : ℕ → Bool) (m : Moment) (b : BoardView) (s : Sheet) (due : Data) →
     IsAt p named m b → IsTraced p m s →
-    AreDue due (waiting_of s) (absent_of b.memory) (bus_of b.memory) →
+    AreDue due (sheet_accesses s) (absent_of b.memory) (bus_of b.memory) →
     AreDue due (pending_at p m.retired m.done) (absent_at named m) (bus_at p m.retired m.done)
 data_at p named m b s due at traced are =
     subst (λ (xs : List Access). AreDue due xs (absent_at named m) (bus_at p m.retired m.done)) traced.waiting
-    (subst (λ (absent : ℕ → Bool). AreDue due (waiting_of s) absent (bus_at p m.retired m.done))
+    (subst (λ (absent : ℕ → Bool). AreDue due (sheet_accesses s) absent (bus_at p m.retired m.done))
     (pages_at p named m b at)
-    (subst (λ (bus : ℕ → ℕ). AreDue due (waiting_of s) (absent_of b.memory) bus) (words_at p named m b at) are))
+    (subst (λ (bus : ℕ → ℕ). AreDue due (sheet_accesses s) (absent_of b.memory) bus) (words_at p named m b at) are))

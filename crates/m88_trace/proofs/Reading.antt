@@ -4,7 +4,7 @@ use Rattle.std.proofs.Common.{arith, length-append, refl, sym, ap, ◌∙◌}
 use Rattle.m88_isa.specs.Machine.{Program, opening, state}
 use Rattle.m88_trace.proofs.History.{ended_next, line_past, line_there, not_ended_first, some_line}
 use Rattle.m88_trace.proofs.Verdicts.{HasRead, differs_by, differs_past, read_more, read_none}
-use Rattle.m88_trace.specs.Inside.Doings.{Follows, Seen, seen_at, seen_of}
+use Rattle.m88_trace.specs.Inside.Doings.{WroteLine, Seen, seen_at_state, seen_by_follower}
 use Rattle.m88_trace.specs.Texts.{DiffersBehind}
 use Rattle.m88_trace.specs.Trace.{is_ended, trace_line}
 use Rattle.m88_trace.specs.declared.follower.Follower.{Follower}
@@ -12,19 +12,19 @@ use Rattle.m88_trace.specs.declared.follower.Follower.{Follower}
 -- so many lines of a program's trace are read, and this is left; a follower stands behind as many steps, or at the end
 pub record Reads (p : Program) (text rest : List ℕ) (k : ℕ) (f : Seen) (stopped : Bool) : Type 0 where
   pub read : HasRead (trace_line p) text rest k
-  pub seen : f ≡ seen_at (state p k)
+  pub seen : f ≡ seen_at_state (state p k)
   pub ended : stopped ≡ is_ended p k
 
-pub reads_none : (p : Program) (text : List ℕ) (f : Seen) → f ≡ seen_at (opening p) → Reads p text text 0 f false
+pub reads_none : (p : Program) (text : List ℕ) (f : Seen) → f ≡ seen_at_state (opening p) → Reads p text text 0 f false
 unfolding state
 reads_none p text f seen = record { read = read_none (trace_line p) text; seen = seen; ended = sym (not_ended_first p) }
 
 -- the next line is read
 pub reads_more : (p : Program) (text rest line more : List ℕ) (k : ℕ) (f : Seen) (stopped : Bool) (new : Follower) →
     Reads p text rest k f false →
-    Follows p k line stopped new →
+    WroteLine p k line stopped new →
     rest ≡ line ++ more →
-    Reads p text more (k + 1) (seen_of new) stopped
+    Reads p text more (k + 1) (seen_by_follower new) stopped
 reads_more p text rest line more k f stopped new reads follows begins = record {
   read =
       read_more (trace_line p) text rest line more k reads.read
@@ -36,7 +36,7 @@ reads_more p text rest line more k f stopped new reads follows begins = record {
 -- what is left doesn't begin with the next line
 pub reads_other : (p : Program) (text rest line : List ℕ) (k : ℕ) (f : Seen) (stopped : Bool) (new : Follower) →
     Reads p text rest k f false →
-    Follows p k line stopped new →
+    WroteLine p k line stopped new →
     rest ≢ [] →
     ((more : List ℕ) → rest ≢ line ++ more) →
     DiffersBehind (trace_line p) text k
@@ -53,7 +53,7 @@ reads_past p text rest k f reads some =
 -- a line that was read isn't empty, so that less is left
 pub less_left : (p : Program) (text rest line more : List ℕ) (k : ℕ) (f : Seen) (stopped : Bool) (new : Follower) →
     Reads p text rest k f false →
-    Follows p k line stopped new →
+    WroteLine p k line stopped new →
     rest ≡ line ++ more →
     length more < length rest
 less_left p text rest line more k f stopped new reads follows begins =

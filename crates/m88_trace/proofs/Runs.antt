@@ -16,8 +16,8 @@ use Rattle.m88_isa.specs.History.{transaction_count, transactions}
 use Rattle.m88_isa.specs.Machine.{Program}
 use Rattle.m88_trace.proofs.History.{lines_there, text_past}
 use Rattle.m88_trace.specs.Inside.Running.{IsTraced}
-use Rattle.m88_trace.specs.Inside.Sheets.{waiting_of, written_by}
-use Rattle.m88_trace.specs.Texts.{HasLines, IsText, text_of}
+use Rattle.m88_trace.specs.Inside.Sheets.{sheet_accesses, sheet_text}
+use Rattle.m88_trace.specs.Texts.{HasLines, IsText, text_of_first}
 use Rattle.m88_trace.specs.Trace.{trace_at, trace_line, trace_of}
 use Rattle.m88_trace.specs.declared.sheet.Sheet.{Sheet}
 
@@ -30,16 +30,16 @@ pub record Runs (p : Program) (named : ℕ → Bool) (limit : ℕ) (schedule : L
   pub first : IsRunning p named limit schedule k
 
 -- at first
-blank : (p : Program) (s : Sheet) → ((bus : ℕ → ℕ) → written_by s bus ≡ []) → waiting_of s ≡ [] →
+blank : (p : Program) (s : Sheet) → ((bus : ℕ → ℕ) → sheet_text s bus ≡ []) → sheet_accesses s ≡ [] →
     IsTraced p opening_moment s
-unfolding text_of transactions
+unfolding text_of_first transactions
 blank p s text waiting = record { text = text _; waiting = waiting }
 
 pub runs_first : (p : Program) (named : ℕ → Bool) (limit : ℕ) (schedule : List Letter) (k : ℕ) (b : BoardView)
     (s : Sheet) → k ≡ 0 →
     IsAt p named opening_moment b →
-    ((bus : ℕ → ℕ) → written_by s bus ≡ []) →
-    waiting_of s ≡ [] →
+    ((bus : ℕ → ℕ) → sheet_text s bus ≡ []) →
+    sheet_accesses s ≡ [] →
     Runs p named limit schedule k b s
 unfolding moment_along
 runs_first p named limit schedule k b s e at text waiting =
@@ -94,7 +94,7 @@ second_of true b h = h
 second_of false b h = absurd cc
 
 pub over_empty : (p : Program) (limit : ℕ) (m : Moment) (s : Sheet) → IsTraced p m s → is_over p limit m ≡ true →
-    waiting_of s ≡ []
+    sheet_accesses s ≡ []
 over_empty p limit m s traced over =
     let drained = eqb-true m.done (transaction_count p m.retired) (first_of (is_drained p m) (is_idle limit m) over) in
     traced.waiting ∙ drop_all m.done (transactions p m.retired) (omega (arith, drained))
@@ -102,12 +102,12 @@ over_empty p limit m s traced over =
 -- and the trace is that of the program and the limit alone
 alone_by : (p : Program) (limit : ℕ) (m : Moment) (ended : Bool) → HasPast p limit m → m.ended ≡ ended →
     (ended || m.retired == limit) ≡ true →
-    text_of (trace_line p) (m.retired + one_if ended) ≡ trace_of p limit
+    text_of_first (trace_line p) (m.retired + one_if ended) ≡ trace_of p limit
 alone_by p limit m true past is idle =
     let end = past.ended is in text_past p m.retired limit end.next end.early
 alone_by p limit m false past is idle =
     let same : m.retired + one_if false ≡ limit = (let e = eqb-true m.retired limit idle in omega (arith, e)) in
-    ap (text_of (trace_line p)) same
+    ap (text_of_first (trace_line p)) same
 
 pub over_alone : (p : Program) (limit : ℕ) (m : Moment) → HasPast p limit m → is_over p limit m ≡ true →
     trace_at p m ≡ trace_of p limit

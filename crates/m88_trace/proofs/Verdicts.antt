@@ -5,37 +5,37 @@ use Rattle.std.proofs.lemmas.Bool.{eqb-false, eqb-true, ltb-false, ltb-true}
 use Rattle.std.proofs.lemmas.List.{append-nil}
 use Rattle.m88_isa.proofs.Laws.{by_test}
 use Rattle.m88_base.specs.OneVerdict.{HasOneVerdict}
-use Rattle.m88_trace.specs.Texts.{BeginsOtherwise, DiffersBehind, HasLines, IsText, text_of}
+use Rattle.m88_trace.specs.Texts.{BeginsOtherwise, DiffersBehind, HasLines, IsText, text_of_first}
 
 -- where more lines are there, the text of so many goes on with the next
 text_goes : (line : ℕ → Option (List ℕ)) (n more : ℕ) →
-    (rest : List ℕ) × (text_of line (n + suc more) ≡ text_of line n ++ (unwrap_or (line n) [] ++ rest))
-unfolding text_of
-text_goes line n zero = ([], rw add-one (ap (λ xs. text_of line n ++ xs) (sym (append-nil (unwrap_or (line n) [])))))
+    (rest : List ℕ) × (text_of_first line (n + suc more) ≡ text_of_first line n ++ (unwrap_or (line n) [] ++ rest))
+unfolding text_of_first
+text_goes line n zero = ([], rw add-one (ap (λ xs. text_of_first line n ++ xs) (sym (append-nil (unwrap_or (line n) [])))))
 text_goes line n (suc more) =
     let before = text_goes line n more in (
       before.0 ++ unwrap_or (line (n + suc more)) [],
-      ap (text_of line) (add-suc n (suc more))
+      ap (text_of_first line) (add-suc n (suc more))
           ∙ ap (λ xs. xs ++ unwrap_or (line (n + suc more)) []) before.1
-          ∙ append_assoc (text_of line n) _ _
-          ∙ ap (λ xs. text_of line n ++ xs) (append_assoc (unwrap_or (line n) []) before.0 _),
+          ∙ append_assoc (text_of_first line n) _ _
+          ∙ ap (λ xs. text_of_first line n ++ xs) (append_assoc (unwrap_or (line n) []) before.0 _),
     )
 
 cancel : (xs ys zs : List ℕ) → xs ++ ys ≡ xs ++ zs → ys ≡ zs
 cancel [] ys zs h = h
 cancel (x ∷ xs) ys zs h = cancel xs ys zs cc
 
-begins : (line : ℕ → Option (List ℕ)) (a b : ℕ) (text rest : List ℕ) → a < b → text ≡ text_of line b ++ rest →
-    (more : List ℕ) × (text ≡ text_of line a ++ (unwrap_or (line a) [] ++ more))
+begins : (line : ℕ → Option (List ℕ)) (a b : ℕ) (text rest : List ℕ) → a < b → text ≡ text_of_first line b ++ rest →
+    (more : List ℕ) × (text ≡ text_of_first line a ++ (unwrap_or (line a) [] ++ more))
 begins line a b text rest less h =
     let goes = text_goes line a (b - a - 1) in
     let e : a + suc (b - a - 1) ≡ b = omega (arith, less) in (
       goes.0 ++ rest,
       h
-          ∙ ap (λ n. text_of line n ++ rest) (sym e)
+          ∙ ap (λ n. text_of_first line n ++ rest) (sym e)
           ∙ ap (λ xs. xs ++ rest) goes.1
-          ∙ append_assoc (text_of line a) _ rest
-          ∙ ap (λ xs. text_of line a ++ xs) (append_assoc (unwrap_or (line a) []) goes.0 rest),
+          ∙ append_assoc (text_of_first line a) _ rest
+          ∙ ap (λ xs. text_of_first line a ++ xs) (append_assoc (unwrap_or (line a) []) goes.0 rest),
     )
 
 not_otherwise : (o : Option (List ℕ)) (rest more : List ℕ) → is_some o ≡ true → rest ≡ unwrap_or o [] ++ more →
@@ -47,14 +47,14 @@ not_otherwise (Some bytes) rest more some h other = other more h
 -- a text that differs behind so many lines has no more of them
 differs_first : (line : ℕ → Option (List ℕ)) (text : List ℕ) (a b : ℕ) (rest : List ℕ) → DiffersBehind line text a →
     HasLines line b →
-    text ≡ text_of line b ++ rest →
+    text ≡ text_of_first line b ++ rest →
     b ≤ a
 differs_first line text a b rest differs there h = by_test (nat_lt a b)
     (λ less.
     let below = ltb-true a b less in
     let more = begins line a b text rest below h in
     absurd (not_otherwise (line a) differs.rest more.0 (there a below)
-    (cancel (text_of line a) differs.rest (unwrap_or (line a) [] ++ more.0) (sym differs.whole ∙ more.1))
+    (cancel (text_of_first line a) differs.rest (unwrap_or (line a) [] ++ more.0) (sym differs.whole ∙ more.1))
     differs.otherwise))
     (λ most. ltb-false a b most)
 
@@ -73,22 +73,22 @@ no_empty (Some (x ∷ xs)) more some h e = cc
 -- a text of more lines than another isn't the same
 shorter : (line : ℕ → Option (List ℕ)) (a b : ℕ) (rest : List ℕ) → ((k : ℕ) → line k ≢ Some []) → HasLines line b →
     a < b →
-    text_of line a ≡ text_of line b ++ rest →
+    text_of_first line a ≡ text_of_first line b ++ rest →
     ⊥
 shorter line a b rest are there less h =
-    let more = begins line a b (text_of line a) rest less h in
+    let more = begins line a b (text_of_first line a) rest less h in
     no_empty (line a) more.0 (there a less) (are a)
-    (sym (cancel (text_of line a) [] (unwrap_or (line a) [] ++ more.0) (append-nil (text_of line a) ∙ more.1)))
+    (sym (cancel (text_of_first line a) [] (unwrap_or (line a) [] ++ more.0) (append-nil (text_of_first line a) ∙ more.1)))
 
 one_count : (line : ℕ → Option (List ℕ)) (text : List ℕ) (a b : ℕ) → ((k : ℕ) → line k ≢ Some []) → IsText line text a →
     IsText line text b →
     a ≡ b
 one_count line text a b are x y = by_test (nat_lt a b)
     (λ less. absurd (shorter line a b [] are y.there (ltb-true a b less) (sym x.whole ∙ y.whole
-    ∙ sym (append-nil (text_of line b)))))
+    ∙ sym (append-nil (text_of_first line b)))))
     (λ more. by_test (nat_lt b a)
     (λ less. absurd (shorter line b a [] are x.there (ltb-true b a less) (sym y.whole ∙ x.whole
-    ∙ sym (append-nil (text_of line a)))))
+    ∙ sym (append-nil (text_of_first line a)))))
     (λ most. omega (arith, ltb-false a b more, ltb-false b a most)))
 
 -- a text that is so many lines differs nowhere
@@ -96,21 +96,21 @@ not_both : (line : ℕ → Option (List ℕ)) (text : List ℕ) (n a : ℕ) → 
     DiffersBehind line text a →
     ⊥
 not_both line text n a are is differs =
-    let low = differs_first line text a n [] differs is.there (is.whole ∙ sym (append-nil (text_of line n))) in
+    let low = differs_first line text a n [] differs is.there (is.whole ∙ sym (append-nil (text_of_first line n))) in
     by_test (nat_lt n a)
     (λ less. shorter line n a differs.rest are differs.there (ltb-true n a less) (sym is.whole ∙ differs.whole))
     (λ most.
     let same : a ≡ n = let high = ltb-false n a most in omega (arith, low, high) in
-    differs.some (cancel (text_of line a) differs.rest []
-    (sym differs.whole ∙ is.whole ∙ ap (text_of line) (sym same) ∙ sym (append-nil (text_of line a)))))
+    differs.some (cancel (text_of_first line a) differs.rest []
+    (sym differs.whole ∙ is.whole ∙ ap (text_of_first line) (sym same) ∙ sym (append-nil (text_of_first line a)))))
 
 -- so many lines are read, and this is left
 pub record HasRead (line : ℕ → Option (List ℕ)) (text rest : List ℕ) (k : ℕ) : Type 0 where
   pub there : HasLines line k
-  pub whole : text ≡ text_of line k ++ rest
+  pub whole : text ≡ text_of_first line k ++ rest
 
 pub read_none : (line : ℕ → Option (List ℕ)) (text : List ℕ) → HasRead line text text 0
-unfolding text_of
+unfolding text_of_first
 read_none line text = record { there = λ k h. absurd (omega (arith, h)); whole = refl }
 
 there_more : (line : ℕ → Option (List ℕ)) (k : ℕ) → HasLines line k → is_some (line k) ≡ true → HasLines line (k + 1)
@@ -120,8 +120,8 @@ there_more line k there some j h = by_test (j == k)
 
 -- the text of one line more
 pub text_more : (line : ℕ → Option (List ℕ)) (k : ℕ) (bytes : List ℕ) → line k ≡ Some bytes →
-    text_of line (k + 1) ≡ text_of line k ++ bytes
-unfolding text_of
+    text_of_first line (k + 1) ≡ text_of_first line k ++ bytes
+unfolding text_of_first
 text_more line k bytes l = rw (add-one, l) refl
 
 pub read_more : (line : ℕ → Option (List ℕ)) (text rest bytes more : List ℕ) (k : ℕ) → HasRead line text rest k →
@@ -132,8 +132,8 @@ read_more line text rest bytes more k read l e = record {
   there = there_more line k read.there (ap is_some l);
   whole =
       read.whole
-      ∙ ap (λ xs. text_of line k ++ xs) e
-      ∙ sym (append_assoc (text_of line k) bytes more)
+      ∙ ap (λ xs. text_of_first line k ++ xs) e
+      ∙ sym (append_assoc (text_of_first line k) bytes more)
       ∙ ap (λ xs. xs ++ more) (sym (text_more line k bytes l));
 }
 
@@ -142,7 +142,7 @@ pub read_all : (line : ℕ → Option (List ℕ)) (text rest : List ℕ) (k : �
     IsText line text k
 read_all line text rest k read none = record {
   there = read.there;
-  whole = read.whole ∙ ap (λ xs. text_of line k ++ xs) none ∙ append-nil (text_of line k);
+  whole = read.whole ∙ ap (λ xs. text_of_first line k ++ xs) none ∙ append-nil (text_of_first line k);
 }
 
 -- what is left doesn't begin with the next line

@@ -14,7 +14,7 @@ use Rattle.m88_isa.specs.Bus.{bus_after, bus_after_all, stored, with_word}
 use Rattle.m88_isa.specs.Lanes.{merged}
 use Rattle.m88_isa.specs.Memory.{IsWordAccess}
 use Rattle.m88_isa.specs.declared.planned.Access.{Access}
-use Rattle.m88_trace.specs.Inside.Sheets.{AreData, AreWords, HasFilled, HasFilledAll, HaveRoom, accesses_of, text_by, waiting_of, with_eight, written_by}
+use Rattle.m88_trace.specs.Inside.Sheets.{AreData, AllWordAccesses, HasFilled, HasFilledAll, HasRoomForAll, waiting_accesses, text_by, sheet_accesses, with_eight, sheet_text}
 use Rattle.m88_trace.specs.Lines.{datum_by}
 use Rattle.m88_trace.specs.declared.sheet.Data.{Data}
 use Rattle.m88_trace.specs.declared.sheet.Sheet.{Sheet}
@@ -71,24 +71,24 @@ items_put v xs new eight k all e f is room =
     with_items_is v _ (omega (arith, all, long)) ∙ put
 
 -- the room for data is as large in a longer text
-pub room_more : (n m : ℕ) (waiting : List Waiting) → n ≤ m → HaveRoom n waiting → HaveRoom m waiting
+pub room_more : (n m : ℕ) (waiting : List Waiting) → n ≤ m → HasRoomForAll n waiting → HasRoomForAll m waiting
 room_more n m [] le room = tt
 room_more n m (w ∷ waiting) le room = (omega (arith, le, room.0), room_more n m waiting le room.1)
 
-room_open : (n : ℕ) (waiting : List Waiting) (w : Waiting) → HaveRoom n waiting → w.at + 8 ≤ n →
-    HaveRoom n (waiting ++ w ∷ [])
+room_open : (n : ℕ) (waiting : List Waiting) (w : Waiting) → HasRoomForAll n waiting → w.at + 8 ≤ n →
+    HasRoomForAll n (waiting ++ w ∷ [])
 room_open n [] w room le = (le, tt)
 room_open n (v ∷ waiting) w room le = (room.0, room_open n waiting w room.1 le)
 
 -- of the others there is as much once the first is written
 room_left : (text eight : List ℕ) (w : Waiting) (waiting : List Waiting) → length eight ≡ 8 →
-    HaveRoom (length text) (w ∷ waiting) →
-    HaveRoom (length (with_eight text w.at eight)) waiting
+    HasRoomForAll (length text) (w ∷ waiting) →
+    HasRoomForAll (length (with_eight text w.at eight)) waiting
 room_left text eight w waiting is room =
-    subst (λ (n : ℕ). HaveRoom n waiting) (sym (eight_length text w.at eight room.0 is)) room.1
+    subst (λ (n : ℕ). HasRoomForAll n waiting) (sym (eight_length text w.at eight room.0 is)) room.1
 
 -- more is written behind a text
-pub written_more : (text more : List ℕ) (waiting : List Waiting) (bus : ℕ → ℕ) → HaveRoom (length text) waiting →
+pub written_more : (text more : List ℕ) (waiting : List Waiting) (bus : ℕ → ℕ) → HasRoomForAll (length text) waiting →
     text_by (text ++ more) waiting bus ≡ text_by text waiting bus ++ more
 unfolding text_by
 written_more text more [] bus room = refl
@@ -101,9 +101,9 @@ written_more text more (w ∷ waiting) bus room =
 -- an access waits, whose datum is to stand at the end
 pub written_open : (text blank : List ℕ) (waiting : List Waiting) (w : Waiting) (bus : ℕ → ℕ) → length blank ≡ 8 →
     w.at ≡ length text →
-    HaveRoom (length text) waiting →
+    HasRoomForAll (length text) waiting →
     text_by (text ++ blank) (waiting ++ w ∷ []) bus
-    ≡ text_by text waiting bus ++ hex8 (datum_by w.access (bus_after_all (accesses_of waiting) bus))
+    ≡ text_by text waiting bus ++ hex8 (datum_by w.access (bus_after_all (waiting_accesses waiting) bus))
 unfolding text_by bus_after_all
 written_open text blank [] w bus is e room = eight_last text blank w.at (hex8 (datum_by w.access bus)) e is
 written_open text blank (v ∷ waiting) w bus is e room =
@@ -113,17 +113,17 @@ written_open text blank (v ∷ waiting) w bus is e room =
     ∙ written_open (with_eight text v.at eight) blank waiting w (bus_after v.access bus) is
     (e ∙ sym (eight_length text v.at eight room.0 refl)) left
 
-pub accesses_more : (waiting : List Waiting) (w : Waiting) → accesses_of (waiting ++ w ∷ []) ≡ accesses_of waiting
+pub accesses_more : (waiting : List Waiting) (w : Waiting) → waiting_accesses (waiting ++ w ∷ []) ≡ waiting_accesses waiting
     ++ w.access ∷ []
 accesses_more [] w = refl
 accesses_more (v ∷ waiting) w = ap (λ (xs : List Access). v.access ∷ xs) (accesses_more waiting w)
 
 -- where none waits, all is written
-pub none_waits : (waiting : List Waiting) → accesses_of waiting ≡ [] → waiting ≡ []
+pub none_waits : (waiting : List Waiting) → waiting_accesses waiting ≡ [] → waiting ≡ []
 none_waits [] e = refl
 none_waits (w ∷ waiting) e = absurd cc
 
-pub written_all : (text : List ℕ) (waiting : List Waiting) (bus : ℕ → ℕ) → accesses_of waiting ≡ [] →
+pub written_all : (text : List ℕ) (waiting : List Waiting) (bus : ℕ → ℕ) → waiting_accesses waiting ≡ [] →
     text ≡ text_by text waiting bus
 unfolding text_by
 written_all text waiting bus e = ap (λ (ws : List Waiting). text_by text ws bus) (sym (none_waits waiting e))
@@ -131,7 +131,7 @@ written_all text waiting bus e = ap (λ (ws : List Waiting). text_by text ws bus
 -- the datum of the oldest is written
 pub written_first : (text : List ℕ) (w : Waiting) (waiting : List Waiting) (datum : ℕ) (values : List ℕ)
     (bus : ℕ → ℕ) →
-    AreData (datum ∷ values) (accesses_of (w ∷ waiting)) bus →
+    AreData (datum ∷ values) (waiting_accesses (w ∷ waiting)) bus →
     text_by (with_eight text w.at (hex8 datum)) waiting (bus_after w.access bus)
     ≡ text_by text (w ∷ waiting) bus
 unfolding text_by
@@ -169,15 +169,15 @@ unfolding text_by
 written_blank text waiting bus e f = rw (e, f) refl
 
 -- more stands behind a text
-pub more_by : (text new more : List ℕ) (waiting : List Waiting) (bus : ℕ → ℕ) → HaveRoom (length text) waiting →
+pub more_by : (text new more : List ℕ) (waiting : List Waiting) (bus : ℕ → ℕ) → HasRoomForAll (length text) waiting →
     new ≡ text ++ more →
     text_by new waiting bus ≡ text_by text waiting bus ++ more
 more_by text new more waiting bus room e = ap (λ (xs : List ℕ). text_by xs waiting bus) e
     ∙ written_more text more waiting bus room
 
 -- and as much room is in it
-pub room_by : (text new more : List ℕ) (waiting : List Waiting) → HaveRoom (length text) waiting → new ≡ text ++ more →
-    HaveRoom (length new) waiting
+pub room_by : (text new more : List ℕ) (waiting : List Waiting) → HasRoomForAll (length text) waiting → new ≡ text ++ more →
+    HasRoomForAll (length new) waiting
 room_by text new more waiting room e =
     let all = length-append text more in
     let same = ap (λ (xs : List ℕ). length xs) e in
@@ -193,21 +193,21 @@ three_parts w a b c x y e f =
 
 -- an access waits, which was written up to its datum
 pub open_by : (text head blank new next : List ℕ) (waiting after : List Waiting) (w : Waiting) (bus : ℕ → ℕ) →
-    HaveRoom (length text) waiting →
+    HasRoomForAll (length text) waiting →
     after ≡ waiting ++ w ∷ [] →
     new ≡ text ++ head →
     w.at ≡ length new →
     next ≡ new ++ blank →
     length blank ≡ 8 →
     text_by next after bus
-    ≡ text_by text waiting bus ++ (head ++ hex8 (datum_by w.access (bus_after_all (accesses_of waiting) bus)))
+    ≡ text_by text waiting bus ++ (head ++ hex8 (datum_by w.access (bus_after_all (waiting_accesses waiting) bus)))
 open_by text head blank new next waiting after w bus room e f g h is =
     ap₂ (λ (xs : List ℕ) (ws : List Waiting). text_by xs ws bus) h e
     ∙ written_open new blank waiting w bus is g (room_by text new head waiting room f)
-    ∙ ap (λ (xs : List ℕ). xs ++ hex8 (datum_by w.access (bus_after_all (accesses_of waiting) bus)))
+    ∙ ap (λ (xs : List ℕ). xs ++ hex8 (datum_by w.access (bus_after_all (waiting_accesses waiting) bus)))
     (more_by text new head waiting bus room f)
     ∙ append_assoc (text_by text waiting bus) head
-    (hex8 (datum_by w.access (bus_after_all (accesses_of waiting) bus)))
+    (hex8 (datum_by w.access (bus_after_all (waiting_accesses waiting) bus)))
 
 -- it begins eight bytes in front of the end
 pub opened_long : (text head blank next : List ℕ) (len : ℕ) → next ≡ text ++ (head ++ blank) → length blank ≡ 8 →
@@ -228,32 +228,32 @@ opened_at text blank next len e is all =
 
 -- and its datum has room
 pub room_by_open : (text head blank new next : List ℕ) (waiting after : List Waiting) (w : Waiting) →
-    HaveRoom (length text) waiting →
+    HasRoomForAll (length text) waiting →
     after ≡ waiting ++ w ∷ [] →
     new ≡ text ++ head →
     w.at ≡ length new →
     next ≡ new ++ blank →
     length blank ≡ 8 →
-    HaveRoom (length next) after
+    HasRoomForAll (length next) after
 room_by_open text head blank new next waiting after w room e f g h is =
     let all = length-append new blank in
     let same = ap (λ (xs : List ℕ). length xs) h in
-    subst (λ (ws : List Waiting). HaveRoom (length next) ws) (sym e)
+    subst (λ (ws : List Waiting). HasRoomForAll (length next) ws) (sym e)
     (room_open (length next) waiting w
     (room_by new next blank waiting (room_by text new head waiting room f) h)
     (omega (arith, all, same, g, is)))
 
 pub accesses_by : (waiting next : List Waiting) (w : Waiting) (a : Access) → next ≡ waiting ++ w ∷ [] → w.access ≡ a →
-    accesses_of next ≡ accesses_of waiting ++ a ∷ []
+    waiting_accesses next ≡ waiting_accesses waiting ++ a ∷ []
 accesses_by waiting next w a e f =
-    ap accesses_of e ∙ accesses_more waiting w ∙ ap (λ (x : Access). accesses_of waiting ++ x ∷ []) f
+    ap waiting_accesses e ∙ accesses_more waiting w ∙ ap (λ (x : Access). waiting_accesses waiting ++ x ∷ []) f
 
 -- accesses that can be made
-pub made_more : (xs : List Access) (a : Access) → AreWords xs → IsWordAccess a → AreWords (xs ++ a ∷ [])
+pub made_more : (xs : List Access) (a : Access) → AllWordAccesses xs → IsWordAccess a → AllWordAccesses (xs ++ a ∷ [])
 made_more [] a are is = (is, tt)
 made_more (x ∷ xs) a are is = (are.0, made_more xs a are.1 is)
 
-pub made_at : (xs : List Access) (k : ℕ) (a : Access) → AreWords xs → slice_get xs k ≡ Some a → IsWordAccess a
+pub made_at : (xs : List Access) (k : ℕ) (a : Access) → AllWordAccesses xs → slice_get xs k ≡ Some a → IsWordAccess a
 made_at [] k a are e = absurd cc
 made_at (x ∷ xs) zero a are e = let same : x ≡ a = cc in subst (λ (y : Access). IsWordAccess y) same are.0
 made_at (x ∷ xs) (suc k) a are e = made_at xs k a are.1 e
@@ -267,30 +267,30 @@ pub filled_by : (text next : List ℕ) (waiting left : List Waiting) (w : Waitin
     (bus : ℕ → ℕ) →
     waiting ≡ w ∷ left →
     next ≡ with_eight text w.at (hex8 datum) →
-    AreData (datum ∷ values) (accesses_of waiting) bus →
-    text_by next left (bus_after_all (take 1 (accesses_of waiting)) bus) ≡ text_by text waiting bus
+    AreData (datum ∷ values) (waiting_accesses waiting) bus →
+    text_by next left (bus_after_all (take 1 (waiting_accesses waiting)) bus) ≡ text_by text waiting bus
 unfolding bus_after_all
 filled_by text next waiting left w datum values bus e f are =
-    let is = subst (λ (ws : List Waiting). AreData (datum ∷ values) (accesses_of ws) bus) e are in
-    ap₂ (λ (xs : List ℕ) (ws : List Waiting). text_by xs left (bus_after_all (take 1 (accesses_of ws)) bus)) f e
+    let is = subst (λ (ws : List Waiting). AreData (datum ∷ values) (waiting_accesses ws) bus) e are in
+    ap₂ (λ (xs : List ℕ) (ws : List Waiting). text_by xs left (bus_after_all (take 1 (waiting_accesses ws)) bus)) f e
     ∙ written_first text w left datum values bus is
     ∙ ap (λ (ws : List Waiting). text_by text ws bus) (sym e)
 
 pub room_filled : (text next : List ℕ) (waiting left : List Waiting) (w : Waiting) (datum : ℕ) → waiting ≡ w ∷ left →
     next ≡ with_eight text w.at (hex8 datum) →
-    HaveRoom (length text) waiting →
-    HaveRoom (length next) left
+    HasRoomForAll (length text) waiting →
+    HasRoomForAll (length next) left
 room_filled text next waiting left w datum e f room =
-    subst (λ (xs : List ℕ). HaveRoom (length xs) left) (sym f)
-    (room_left text (hex8 datum) w left refl (subst (λ (ws : List Waiting). HaveRoom (length text) ws) e room))
+    subst (λ (xs : List ℕ). HasRoomForAll (length xs) left) (sym f)
+    (room_left text (hex8 datum) w left refl (subst (λ (ws : List Waiting). HasRoomForAll (length text) ws) e room))
 
 -- the first has room
-pub room_first : (n : ℕ) (waiting left : List Waiting) (w : Waiting) → waiting ≡ w ∷ left → HaveRoom n waiting →
+pub room_first : (n : ℕ) (waiting left : List Waiting) (w : Waiting) → waiting ≡ w ∷ left → HasRoomForAll n waiting →
     w.at + 8 ≤ n
-room_first n waiting left w e room = (subst (λ (ws : List Waiting). HaveRoom n ws) e room).0
+room_first n waiting left w e room = (subst (λ (ws : List Waiting). HasRoomForAll n ws) e room).0
 
 pub none_filled : (text : List ℕ) (waiting : List Waiting) (bus : ℕ → ℕ) → waiting ≡ [] →
-    text_by text waiting (bus_after_all (take 1 (accesses_of waiting)) bus) ≡ text_by text waiting bus
+    text_by text waiting (bus_after_all (take 1 (waiting_accesses waiting)) bus) ≡ text_by text waiting bus
 unfolding bus_after_all
 none_filled text waiting bus e = rw e refl
 
@@ -329,7 +329,7 @@ word_next (x ∷ xs) (suc k) a bus e =
     rw h (word_next xs k a (bus_after x bus) e)
 
 -- two parts are written behind a text
-pub more_two : (text new next a b : List ℕ) (waiting : List Waiting) (bus : ℕ → ℕ) → HaveRoom (length text) waiting →
+pub more_two : (text new next a b : List ℕ) (waiting : List Waiting) (bus : ℕ → ℕ) → HasRoomForAll (length text) waiting →
     new ≡ text ++ a →
     next ≡ new ++ b →
     text_by next waiting bus ≡ text_by text waiting bus ++ a ++ b
@@ -337,14 +337,14 @@ more_two text new next a b waiting bus room e f =
     more_by new next b waiting bus (room_by text new a waiting room e) f
     ∙ ap (λ (xs : List ℕ). xs ++ b) (more_by text new a waiting bus room e)
 
-pub room_two : (text new next a b : List ℕ) (waiting : List Waiting) → HaveRoom (length text) waiting →
+pub room_two : (text new next a b : List ℕ) (waiting : List Waiting) → HasRoomForAll (length text) waiting →
     new ≡ text ++ a →
     next ≡ new ++ b →
-    HaveRoom (length next) waiting
+    HasRoomForAll (length next) waiting
 room_two text new next a b waiting room e f = room_by new next b waiting (room_by text new a waiting room e) f
 
 -- where none waits, it doesn't matter what memory has
-pub whatever_words : (s : Sheet) (bus after : ℕ → ℕ) → waiting_of s ≡ [] → written_by s after ≡ written_by s bus
+pub whatever_words : (s : Sheet) (bus after : ℕ → ℕ) → sheet_accesses s ≡ [] → sheet_text s after ≡ sheet_text s bus
 whatever_words s bus after e =
     sym (written_all s.text.items s.waiting.items after e)
     ∙ written_all s.text.items s.waiting.items bus e
@@ -360,22 +360,22 @@ none_left (a ∷ b ∷ c ∷ d ∷ rest) few = absurd (omega arith)
 pub three_filled : (due : Data) (s t u v : Sheet) → HasFilled due.oldest s t → HasFilled due.second t u →
     HasFilled due.third u v → HasFilledAll due s v
 three_filled due s t u v x y z =
-    let left : length (waiting_of s) ≤ 3 → waiting_of v ≡ [] =
+    let left : length (sheet_accesses s) ≤ 3 → sheet_accesses v ≡ [] =
     λ few.
     z.waiting
     ∙ ap (λ (xs : List Access). drop 1 xs) (y.waiting ∙ ap (λ (xs : List Access). drop 1 xs) x.waiting)
-    ∙ none_left (waiting_of s) few in
+    ∙ none_left (sheet_accesses s) few in
     record {
       text = λ bus after are few.
-          let second : ℕ → ℕ = bus_after_all (take 1 (waiting_of s)) bus in
-          let rest : AreData (due.second ∷ due.third ∷ []) (waiting_of t) second =
+          let second : ℕ → ℕ = bus_after_all (take 1 (sheet_accesses s)) bus in
+          let rest : AreData (due.second ∷ due.third ∷ []) (sheet_accesses t) second =
           subst (λ (xs : List Access). AreData (due.second ∷ due.third ∷ []) xs second) (sym x.waiting)
-          (data_left due.oldest (due.second ∷ due.third ∷ []) (waiting_of s) bus are) in
-          let third : ℕ → ℕ = bus_after_all (take 1 (waiting_of t)) second in
-          let last : AreData (due.third ∷ []) (waiting_of u) third =
+          (data_left due.oldest (due.second ∷ due.third ∷ []) (sheet_accesses s) bus are) in
+          let third : ℕ → ℕ = bus_after_all (take 1 (sheet_accesses t)) second in
+          let last : AreData (due.third ∷ []) (sheet_accesses u) third =
           subst (λ (xs : List Access). AreData (due.third ∷ []) xs third) (sym y.waiting)
-          (data_left due.second (due.third ∷ []) (waiting_of t) second rest) in
-          whatever_words v (bus_after_all (take 1 (waiting_of u)) third) after (left few)
+          (data_left due.second (due.third ∷ []) (sheet_accesses t) second rest) in
+          whatever_words v (bus_after_all (take 1 (sheet_accesses u)) third) after (left few)
           ∙ z.text third [] last
           ∙ y.text second (due.third ∷ []) rest
           ∙ x.text bus (due.second ∷ due.third ∷ []) are;
@@ -401,13 +401,13 @@ pub vec_some : {A : Type 0} (len : ℕ) (xs : List A) (b : Bool) → b ≡ (len 
     0 < length xs
 vec_some len xs b h f e = let some = eqb-false len 0 (sym h ∙ f) in omega (arith, some, e)
 
-pub made_left : (waiting left : List Waiting) (w : Waiting) → waiting ≡ w ∷ left → AreWords (accesses_of waiting) →
-    AreWords (accesses_of left)
-made_left waiting left w e are = (subst (λ (ws : List Waiting). AreWords (accesses_of ws)) e are).1
+pub made_left : (waiting left : List Waiting) (w : Waiting) → waiting ≡ w ∷ left → AllWordAccesses (waiting_accesses waiting) →
+    AllWordAccesses (waiting_accesses left)
+made_left waiting left w e are = (subst (λ (ws : List Waiting). AllWordAccesses (waiting_accesses ws)) e are).1
 
 -- one of those that wait, by its number
 pub index_at : (ws : List Waiting) (k : ℕ) (w : Waiting) → k < length ws → w ≡ get_or ws k w →
-    slice_get (accesses_of ws) k ≡ Some w.access
+    slice_get (waiting_accesses ws) k ≡ Some w.access
 index_at [] k w below e = absurd (omega arith)
 index_at (x ∷ ws) zero w below e = ap (λ (v : Waiting). Some v.access) (sym e)
 index_at (x ∷ ws) (suc k) w below e = index_at ws k w (omega (arith, below)) e
@@ -415,7 +415,7 @@ index_at (x ∷ ws) (suc k) w below e = index_at ws k w (omega (arith, below)) e
 -- and among the first so many
 first_at : (ws : List Waiting) (count k : ℕ) (w : Waiting) → k < count → count ≤ length ws →
     w ≡ get_or (take count ws) k w →
-    slice_get (accesses_of ws) k ≡ Some w.access
+    slice_get (waiting_accesses ws) k ≡ Some w.access
 first_at [] count k w below within e = absurd (omega arith)
 first_at (x ∷ ws) zero k w below within e = absurd (omega arith)
 first_at (x ∷ ws) (suc count) zero w below within e = ap (λ (v : Waiting). Some v.access) (sym e)
@@ -425,7 +425,7 @@ first_at (x ∷ ws) (suc count) (suc k) w below within e =
 pub item_at : (ws shown : List Waiting) (count k : ℕ) (w : Waiting) → shown ≡ ws → k < length (take count shown) →
     count ≤ length ws →
     w ≡ get_or (take count shown) k w →
-    slice_get (accesses_of ws) k ≡ Some w.access
+    slice_get (waiting_accesses ws) k ≡ Some w.access
 item_at ws shown count k w same below within e =
     let inside : k < length (take count ws) = subst (λ (xs : List Waiting). k < length (take count xs)) same below in
     first_at ws count k w (omega (arith, inside, length-take-le count ws within)) within

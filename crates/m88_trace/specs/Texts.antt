@@ -4,9 +4,9 @@ use Rattle.m88_trace.specs.declared.fault.TraceFault.{TraceFault}
 use Rattle.m88_trace.specs.declared.fault.TraceFault.TheVariants.{Differs, Memory}
 
 -- the text of the first so many lines, as far as there are
-unfoldable pub text_of : (ℕ → Option (List ℕ)) → ℕ → List ℕ
-text_of line zero = []
-text_of line (suc n) = text_of line n ++ unwrap_or (line n) []
+unfoldable pub text_of_first : (ℕ → Option (List ℕ)) → ℕ → List ℕ
+text_of_first line zero = []
+text_of_first line (suc n) = text_of_first line n ++ unwrap_or (line n) []
 
 -- there are so many lines at least
 abbrev pub HasLines : (ℕ → Option (List ℕ)) → ℕ → Type 0
@@ -15,7 +15,7 @@ HasLines line n = (k : ℕ) → k < n → is_some (line k) ≡ true
 -- a text is the first so many lines
 pub record IsText (line : ℕ → Option (List ℕ)) (text : List ℕ) (n : ℕ) : Type 0 where
   pub there : HasLines line n
-  pub whole : text ≡ text_of line n
+  pub whole : text ≡ text_of_first line n
 
 -- what is left doesn't begin with the next line, or there is none
 abbrev pub BeginsOtherwise : Option (List ℕ) → List ℕ → Type 0
@@ -26,7 +26,7 @@ BeginsOtherwise (Some bytes) rest = (more : List ℕ) → rest ≢ bytes ++ more
 pub record DiffersBehind (line : ℕ → Option (List ℕ)) (text : List ℕ) (n : ℕ) : Type 0 where
   pub there : HasLines line n
   pub rest : List ℕ
-  pub whole : text ≡ text_of line n ++ rest
+  pub whole : text ≡ text_of_first line n ++ rest
   pub some : rest ≢ []
   pub otherwise : BeginsOtherwise (line n) rest
 

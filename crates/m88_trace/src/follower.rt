@@ -6,7 +6,7 @@ ghost use Rattle.m88_isa.specs.Bus.{after_access, after_accesses, listed, stored
 ghost use Rattle.m88_isa.specs.Machine.{with_written};
 ghost use Rattle.m88_isa.specs.Memory.{AreWordAccesses, IsWordAccess};
 ghost use Rattle.m88_mem.specs.DataBus.{bus_of};
-ghost use Rattle.m88_trace.specs.Inside.Doings.{BeginsHistory, CanDo, CanMake, HasCells, HasDone, IsNextLine, IsReady, cells_of, ends_by};
+ghost use Rattle.m88_trace.specs.Inside.Doings.{BeginsHistory, CanDo, CanMake, HasCells, HasDone, IsNextTraceLine, IsReady, cells_of, ends_by};
 ghost use Rattle.m88_trace.specs.Lines.{access_text, accesses_text, datum_by};
 ghost use Rattle.m88_trace.specs.declared.doing.Doing.TheVariants as doings;
 
@@ -50,7 +50,7 @@ impl Follower {
     /// answer is whether the program ended. Where memory runs out, both are anything.
     pub(crate) fn next_line(&mut self, number: u32, line: &mut Vec<u8>) -> Result<bool, NoMemory>
         requires { IsReady self.old }
-        ensures { IfOk result (λ ended. IsNextLine number line.new.items self.old ended self.new) }
+        ensures { IfOk result (λ ended. IsNextTraceLine number line.new.items self.old ended self.new) }
     {
         line.clear();
         let word = self.memory.fetch(self.pc);

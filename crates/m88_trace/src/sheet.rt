@@ -7,7 +7,7 @@ ghost use Rattle.m88_isa.specs.Memory.{AreWordAccesses, IsWordAccess};
 ghost use Rattle.m88_isa.specs.declared.planned.Plan.TheVariants.{Go};
 ghost use Rattle.m88_mem.specs.DataBus.{absent_of, bus_of};
 ghost use Rattle.m88_trace.specs.Inside.Doings.{doing_line};
-ghost use Rattle.m88_trace.specs.Inside.Sheets.{AreDue, AreMade, CanAdd, CanWait, HasAdded, HasFilled, HasFilledAll, IsBlank, waiting_of, written_by};
+ghost use Rattle.m88_trace.specs.Inside.Sheets.{AreDue, AreMade, CanAdd, CanWait, HasAdded, HasFilled, HasFilledAll, IsBlank, sheet_accesses, sheet_text};
 ghost use Rattle.m88_trace.specs.Lines.{access_text, accesses_text, datum_by, head_text, written_text};
 ghost use Rattle.m88_trace.specs.declared.doing.Doing.TheVariants as doings;
 
@@ -56,7 +56,7 @@ impl Sheet {
 
     /// The text, where no access waits.
     pub(crate) fn finish(self) -> Vec<u8>
-        ensures { (bus : ℕ → ℕ) → waiting_of self ≡ [] → result.items ≡ written_by self bus }
+        ensures { (bus : ℕ → ℕ) → sheet_accesses self ≡ [] → result.items ≡ sheet_text self bus }
     {
         self.text
     }
@@ -182,8 +182,8 @@ impl Sheet {
     /// waits, and where its page is absent, those of all, of which each gets what those before it leave.
     pub(crate) fn data(&self, board: &Board) -> Data
         requires { AreMade self.now }
-        ensures { length (waiting_of self.now) ≤ 3
-            → AreDue result (waiting_of self.now) (absent_of board.now.memory)
+        ensures { length (sheet_accesses self.now) ≤ 3
+            → AreDue result (sheet_accesses self.now) (absent_of board.now.memory)
             (bus_of board.now.memory) }
     {
         if self.waiting.is_empty() {
@@ -208,8 +208,8 @@ impl Sheet {
     #[tactic(auto, unfolding(crate::specs::Lines::datum_by, m88_isa::specs::Bus::loaded))]
     fn datum(&self, board: &Board, index: usize) -> u32
         requires { AreMade self.now }
-        ensures { IfSome (slice_get (waiting_of self.now) index) (λ a. result ≡ datum_by a
-            (bus_after_all (take index (waiting_of self.now)) (bus_of board.now.memory))) }
+        ensures { IfSome (slice_get (sheet_accesses self.now) index) (λ a. result ≡ datum_by a
+            (bus_after_all (take index (sheet_accesses self.now)) (bus_of board.now.memory))) }
     {
         if index >= self.waiting.len() {
             return 0;
@@ -233,7 +233,7 @@ impl Sheet {
         requires word { addr % 4 ≡ 0 }
         requires count { count ≤ length self.now.waiting.items }
         ensures { result
-            ≡ bus_after_all (take count (waiting_of self.now)) (bus_of board.now.memory) addr }
+            ≡ bus_after_all (take count (sheet_accesses self.now)) (bus_of board.now.memory) addr }
     {
         let mut word = board.word(addr);
         for waiting in &self.waiting[..count] {

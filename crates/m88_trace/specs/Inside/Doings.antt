@@ -17,7 +17,7 @@ use Rattle.m88_isa.specs.declared.planned.Access.{Access}
 use Rattle.m88_isa.specs.declared.planned.Effect.{Effect}
 use Rattle.m88_mem.specs.DataBus.{absent_of, bus_of}
 use Rattle.m88_trace.specs.Lines.{accesses_text, head_text, output_text, written_text}
-use Rattle.m88_trace.specs.Trace.{line_at}
+use Rattle.m88_trace.specs.Trace.{trace_line_at}
 use Rattle.m88_trace.specs.declared.doing.Doing.{Doing}
 use Rattle.m88_trace.specs.declared.doing.Place.{Place}
 use Rattle.m88_trace.specs.declared.doing.Doing.TheVariants.{Goes, Outputs, Ends}
@@ -45,12 +45,12 @@ pub record Seen : Type 0 where
   pub bus : ℕ → ℕ
 
 -- those of a follower
-abbrev pub seen_of : Follower → Seen
-seen_of f = record { regs = f.regs; carry = f.carry; pc = f.pc; next = f.next; bus = bus_of f.memory }
+abbrev pub seen_by_follower : Follower → Seen
+seen_by_follower f = record { regs = f.regs; carry = f.carry; pc = f.pc; next = f.next; bus = bus_of f.memory }
 
 -- those of a state
-unfoldable pub seen_at : State → Seen
-seen_at s = record { regs = s.regs; carry = s.carry; pc = s.pc; next = s.next; bus = in_words s.memory }
+unfoldable pub seen_at_state : State → Seen
+seen_at_state s = record { regs = s.regs; carry = s.carry; pc = s.pc; next = s.next; bus = in_words s.memory }
 
 -- registers and words after the changes of an instruction
 abbrev pub cells_by : Effect → Seen → Cells
@@ -110,14 +110,14 @@ pub record CanMake (a : Access) (f : Follower) : Type 0 where
 pub record BeginsHistory (image : ProgramImage) (f : Follower) : Type 0 where
   pub ready : IsReady f
   pub image_is : f.memory.image ≡ image
-  pub seen : (p : Program) → IsProgramOf image p → seen_of f ≡ seen_at (opening p)
+  pub seen : (p : Program) → IsProgramOf image p → seen_by_follower f ≡ seen_at_state (opening p)
 
 -- an instruction is carried out, and its line stands behind what was there
 pub record HasDone (number word : ℕ) (doing : Doing) (old new : Follower) (before after : List ℕ) : Type 0 where
   pub ready : IsReady new
   pub image : new.memory.image ≡ old.memory.image
   pub line : after ≡ before ++ doing_line number old.pc word doing (bus_of old.memory)
-  pub seen : seen_of new ≡ after_doing doing (seen_of old)
+  pub seen : seen_by_follower new ≡ after_doing doing (seen_by_follower old)
 
 -- these are the registers and the words of memory, and nothing else changed
 pub record HasCells (cells : Cells) (old new : Follower) : Type 0 where
@@ -129,14 +129,15 @@ pub record HasCells (cells : Cells) (old new : Follower) : Type 0 where
   pub absent : absent_of new.memory ≡ absent_of old.memory
 
 -- from the state of a history with a number a follower wrote this line, and stands at the next state
-pub record Follows (p : Program) (number : ℕ) (line : List ℕ) (stopped : Bool) (new : Follower) : Type 0 where
-  pub text : line ≡ line_at p number (state p number)
-  pub seen : seen_of new ≡ seen_at (state p (number + 1))
+pub record WroteLine (p : Program) (number : ℕ) (line : List ℕ) (stopped : Bool) (new : Follower) : Type 0 where
+  pub text : line ≡ trace_line_at p number (state p number)
+  pub seen : seen_by_follower new ≡ seen_at_state (state p (number + 1))
   pub ended : stopped ≡ is_stop (turn_at p (state p number))
 
 -- a follower goes on by a line, from the state of a history with that number to the next
-pub record IsNextLine (number : ℕ) (line : List ℕ) (old : Follower) (stopped : Bool) (new : Follower) : Type 0 where
+pub record IsNextTraceLine (number : ℕ) (line : List ℕ) (old : Follower) (stopped : Bool) (new : Follower)
+    : Type 0 where
   pub ready : IsReady new
   pub image : new.memory.image ≡ old.memory.image
   pub follows : (p : Program) → IsProgram p → IsProgramOf old.memory.image p → p.mxm ≡ false
-      → seen_of old ≡ seen_at (state p number) → Follows p number line stopped new
+      → seen_by_follower old ≡ seen_at_state (state p number) → WroteLine p number line stopped new

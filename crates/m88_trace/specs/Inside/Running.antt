@@ -9,15 +9,15 @@ use Rattle.m88_event.specs.Letters.{letter_at}
 use Rattle.m88_event.specs.Timeline.{Moment, after_letter}
 use Rattle.m88_isa.specs.History.{bus_at, pending_at}
 use Rattle.m88_isa.specs.Machine.{IsProgram, Program, state}
-use Rattle.m88_trace.specs.Inside.Sheets.{AreMade, waiting_of, written_by}
+use Rattle.m88_trace.specs.Inside.Sheets.{AreMade, sheet_accesses, sheet_text}
 use Rattle.m88_trace.specs.Trace.{trace_at}
 use Rattle.m88_trace.specs.declared.sheet.Sheet.{Sheet}
 use Rattle.m88_trace.specs.declared.upcoming.Upcoming.{Upcoming}
 
 -- a sheet has the trace at a moment, once the pending transactions have the data that they get
 pub record IsTraced (p : Program) (m : Moment) (s : Sheet) : Type 0 where
-  pub text : written_by s (bus_at p m.retired m.done) ≡ trace_at p m
-  pub waiting : waiting_of s ≡ pending_at p m.retired m.done
+  pub text : sheet_text s (bus_at p m.retired m.done) ≡ trace_at p m
+  pub waiting : sheet_accesses s ≡ pending_at p m.retired m.done
 
 -- the next instruction at a moment: its number, and where no bubble is before it its address
 pub record IsNext (p : Program) (m : Moment) (next : Upcoming) : Type 0 where

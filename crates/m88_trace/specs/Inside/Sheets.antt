@@ -13,8 +13,8 @@ use Rattle.m88_trace.specs.declared.sheet.Sheet.{Sheet}
 use Rattle.m88_trace.specs.declared.waiting.Waiting.{Waiting}
 
 -- the accesses that wait, the oldest first
-abbrev pub accesses_of : List Waiting → List Access
-accesses_of waiting = map (λ (w : Waiting). w.access) waiting
+abbrev pub waiting_accesses : List Waiting → List Access
+waiting_accesses waiting = map (λ (w : Waiting). w.access) waiting
 
 -- a text with some eight bytes in place of those from an index on
 unfoldable pub with_eight : List ℕ → ℕ → List ℕ → List ℕ
@@ -27,27 +27,27 @@ text_by text (w ∷ waiting) bus =
     text_by (with_eight text w.at (hex8 (datum_by w.access bus))) waiting (bus_after w.access bus)
 
 -- that of a sheet
-abbrev pub written_by : Sheet → (ℕ → ℕ) → List ℕ
-written_by s = text_by s.text.items s.waiting.items
+abbrev pub sheet_text : Sheet → (ℕ → ℕ) → List ℕ
+sheet_text s = text_by s.text.items s.waiting.items
 
 -- the accesses that wait on it
-abbrev pub waiting_of : Sheet → List Access
-waiting_of s = accesses_of s.waiting.items
+abbrev pub sheet_accesses : Sheet → List Access
+sheet_accesses s = waiting_accesses s.waiting.items
 
 -- accesses are ones that the data unit can make
-abbrev pub AreWords : List Access → Type 0
-AreWords [] = Unit {0}
-AreWords (a ∷ accesses) = IsWordAccess a × AreWords accesses
+abbrev pub AllWordAccesses : List Access → Type 0
+AllWordAccesses [] = Unit {0}
+AllWordAccesses (a ∷ accesses) = IsWordAccess a × AllWordAccesses accesses
 
 -- in a text of some length there is room for the datum of each access that waits
-abbrev pub HaveRoom : ℕ → List Waiting → Type 0
-HaveRoom len [] = Unit {0}
-HaveRoom len (w ∷ waiting) = (w.at + 8 ≤ len) × HaveRoom len waiting
+abbrev pub HasRoomForAll : ℕ → List Waiting → Type 0
+HasRoomForAll len [] = Unit {0}
+HasRoomForAll len (w ∷ waiting) = (w.at + 8 ≤ len) × HasRoomForAll len waiting
 
 -- those that wait on a sheet can be made, and their data have room
 pub record AreMade (s : Sheet) : Type 0 where
-  pub words : AreWords (waiting_of s)
-  pub room : HaveRoom (length s.text.items) s.waiting.items
+  pub words : AllWordAccesses (sheet_accesses s)
+  pub room : HasRoomForAll (length s.text.items) s.waiting.items
 
 -- a plan's accesses can wait on a sheet, where it makes some
 pub record CanAdd (plan : Plan) (s : Sheet) : Type 0 where
@@ -61,15 +61,15 @@ pub record CanWait (a : Access) (s : Sheet) : Type 0 where
 
 -- nothing is written on a sheet
 pub record IsBlank (s : Sheet) : Type 0 where
-  pub text : (bus : ℕ → ℕ) → written_by s bus ≡ []
-  pub waiting : waiting_of s ≡ []
+  pub text : (bus : ℕ → ℕ) → sheet_text s bus ≡ []
+  pub waiting : sheet_accesses s ≡ []
   pub made : AreMade s
 
 -- something is written on a sheet behind what stands there, by the words of memory that those that wait leave, and some
 -- accesses more wait
 pub record HasAdded (added : (ℕ → ℕ) → List ℕ) (accesses : List Access) (old new : Sheet) : Type 0 where
-  pub text : (bus : ℕ → ℕ) → written_by new bus ≡ written_by old bus ++ added (bus_after_all (waiting_of old) bus)
-  pub waiting : waiting_of new ≡ waiting_of old ++ accesses
+  pub text : (bus : ℕ → ℕ) → sheet_text new bus ≡ sheet_text old bus ++ added (bus_after_all (sheet_accesses old) bus)
+  pub waiting : sheet_accesses new ≡ sheet_accesses old ++ accesses
   pub made : AreMade new
 
 -- some data are those of accesses, the first of the oldest, at the words of memory that it meets
@@ -90,14 +90,14 @@ pub record AreDue (due : Data) (accesses : List Access) (absent : ℕ → Bool) 
 
 -- the datum of the oldest access that waits is written, if one does
 pub record HasFilled (datum : ℕ) (old new : Sheet) : Type 0 where
-  pub text : (bus : ℕ → ℕ) (values : List ℕ) → AreData (datum ∷ values) (waiting_of old) bus
-      → written_by new (bus_after_all (take 1 (waiting_of old)) bus) ≡ written_by old bus
-  pub waiting : waiting_of new ≡ drop 1 (waiting_of old)
+  pub text : (bus : ℕ → ℕ) (values : List ℕ) → AreData (datum ∷ values) (sheet_accesses old) bus
+      → sheet_text new (bus_after_all (take 1 (sheet_accesses old)) bus) ≡ sheet_text old bus
+  pub waiting : sheet_accesses new ≡ drop 1 (sheet_accesses old)
   pub made : AreMade new
 
 -- the data of all accesses that wait are written, if three do at most
 pub record HasFilledAll (due : Data) (old new : Sheet) : Type 0 where
-  pub text : (bus after : ℕ → ℕ) → AreData (three_of due) (waiting_of old) bus → length (waiting_of old) ≤ 3
-      → written_by new after ≡ written_by old bus
-  pub waiting : length (waiting_of old) ≤ 3 → waiting_of new ≡ []
+  pub text : (bus after : ℕ → ℕ) → AreData (three_of due) (sheet_accesses old) bus → length (sheet_accesses old) ≤ 3
+      → sheet_text new after ≡ sheet_text old bus
+  pub waiting : length (sheet_accesses old) ≤ 3 → sheet_accesses new ≡ []
   pub made : AreMade new

@@ -9,7 +9,7 @@ use Rattle.m88_isa.specs.Machine.{Program}
 use Rattle.m88_trace.proofs.Laws.{one_verdict_of}
 use Rattle.m88_trace.proofs.Reading.{Reads, less_left, reads_more, reads_none, reads_other, reads_past}
 use Rattle.m88_trace.proofs.Verdicts.{is_empty, not_empty, read_all}
-use Rattle.m88_trace.specs.Inside.Doings.{seen_of}
+use Rattle.m88_trace.specs.Inside.Doings.{seen_by_follower}
 use Rattle.m88_trace.specs.Trace.{trace_line}
 use Rattle.m88_trace.proofs.checking.check_trace.Goals as goal
 
@@ -52,7 +52,7 @@ loop-rest-init c = record {
   ready = c.in_ok-follower.ensures.ready;
   image = c.in_ok-follower.ensures.image_is;
   counted = omega arith;
-  reads = λ p of clear. reads_none p c.args.text.now (seen_of c.in_ok-follower.follower)
+  reads = λ p of clear. reads_none p c.args.text.now (seen_by_follower c.in_ok-follower.follower)
       (c.in_ok-follower.ensures.seen p of);
 }
 
@@ -60,9 +60,9 @@ pub returns-then-ended-clause-fault : goal.returns-then-ended-clause-fault
 returns-then-ended-clause-fault c = λ p of clear. (
   c.loop-rest.count,
   refl,
-  reads_past p c.args.text.now c.loop-rest.rest.now c.loop-rest.count (seen_of c.loop-rest.follower)
+  reads_past p c.args.text.now c.loop-rest.rest.now c.loop-rest.count (seen_by_follower c.loop-rest.follower)
       (subst (λ (b : Bool). Reads p c.args.text.now c.loop-rest.rest.now c.loop-rest.count
-      (seen_of c.loop-rest.follower) b) c.if-ended.true
+      (seen_by_follower c.loop-rest.follower) b) c.if-ended.true
       (c.loop-rest.invariant.reads p of clear))
       (not_empty c.loop-rest.rest.now c.is_empty.result c.is_empty.ensures c.loop-rest-test.true),
 )
@@ -70,7 +70,7 @@ returns-then-ended-clause-fault c = λ p of clear. (
 pub returns-in_default-clause-fault : goal.returns-in_default-clause-fault
 returns-in_default-clause-fault c = λ p of clear.
     let reads = subst (λ (b : Bool). Reads p c.args.text.now c.loop-rest.rest.now c.loop-rest.count
-    (seen_of c.loop-rest.follower) b) c.if-ended.false
+    (seen_by_follower c.loop-rest.follower) b) c.if-ended.false
     (c.loop-rest.invariant.reads p of clear) in
     let here = subst (λ (image : ProgramImage). IsProgramOf image p) (sym c.loop-rest.invariant.image) of in
     let follows = c.in_ok-ended.ensures.follows p (program_of_image c.args.image.now p c.part_count.ensures.image of)
@@ -78,7 +78,7 @@ returns-in_default-clause-fault c = λ p of clear.
       c.loop-rest.count,
       refl,
       reads_other p c.args.text.now c.loop-rest.rest.now c.next_line.new.line.items c.loop-rest.count
-          (seen_of c.loop-rest.follower)
+          (seen_by_follower c.loop-rest.follower)
           c.in_ok-ended.ended c.next_line.new.self reads follows
           (not_empty c.loop-rest.rest.now c.is_empty.result c.is_empty.ensures c.loop-rest-test.true)
           (λ more e. c.in_default.ensures more (e ∙ ap (λ xs. xs ++ more) (sym c.deref.ensures.value))),
@@ -97,13 +97,13 @@ loop-rest-smaller c =
     let some = a_program c.args.image.now image in
     let p = some.0 in
     let reads = subst (λ (b : Bool). Reads p c.args.text.now c.loop-rest.rest.now c.loop-rest.count
-    (seen_of c.loop-rest.follower) b) c.if-ended.false
+    (seen_by_follower c.loop-rest.follower) b) c.if-ended.false
     (c.loop-rest.invariant.reads p some.1 some.2) in
     let here = subst (λ (i : ProgramImage). IsProgramOf i p) (sym c.loop-rest.invariant.image) some.1 in
     let follows = c.in_ok-ended.ensures.follows p (program_of_image c.args.image.now p image some.1) here some.2
     reads.seen in
     less_left p c.args.text.now c.loop-rest.rest.now c.next_line.new.line.items c.in-Some.more.now c.loop-rest.count
-    (seen_of c.loop-rest.follower) c.in_ok-ended.ended c.next_line.new.self reads follows
+    (seen_by_follower c.loop-rest.follower) c.in_ok-ended.ended c.next_line.new.self reads follows
     (c.in-Some.ensures ∙ ap (λ (xs : List ℕ). xs ++ c.in-Some.more.now) c.deref.ensures.value)
 
 pub loop-rest-preserved : goal.loop-rest-preserved
@@ -114,13 +114,13 @@ loop-rest-preserved c =
     (let some = a_program c.args.image.now image in
     let p = some.0 in
     let reads = subst (λ (b : Bool). Reads p c.args.text.now c.loop-rest.rest.now c.loop-rest.count
-    (seen_of c.loop-rest.follower) b) c.if-ended.false
+    (seen_by_follower c.loop-rest.follower) b) c.if-ended.false
     (c.loop-rest.invariant.reads p some.1 some.2) in
     let here = subst (λ (i : ProgramImage). IsProgramOf i p) (sym c.loop-rest.invariant.image) some.1 in
     let follows = c.in_ok-ended.ensures.follows p (program_of_image c.args.image.now p image some.1) here some.2
     reads.seen in
     less_left p c.args.text.now c.loop-rest.rest.now c.next_line.new.line.items c.in-Some.more.now c.loop-rest.count
-    (seen_of c.loop-rest.follower) c.in_ok-ended.ended c.next_line.new.self reads follows begins) in
+    (seen_by_follower c.loop-rest.follower) c.in_ok-ended.ended c.next_line.new.self reads follows begins) in
     let counted = c.loop-rest.invariant.counted in
     record {
       ready = c.in_ok-ended.ensures.ready;
@@ -128,14 +128,14 @@ loop-rest-preserved c =
       counted = omega (arith, less, counted);
       reads = λ p of clear.
           let reads = subst (λ (b : Bool). Reads p c.args.text.now c.loop-rest.rest.now c.loop-rest.count
-          (seen_of c.loop-rest.follower) b) c.if-ended.false
+          (seen_by_follower c.loop-rest.follower) b) c.if-ended.false
           (c.loop-rest.invariant.reads p of clear) in
           let here = subst (λ (i : ProgramImage). IsProgramOf i p) (sym c.loop-rest.invariant.image) of in
           let follows = c.in_ok-ended.ensures.follows p (program_of_image c.args.image.now p image of) here clear
           reads.seen in
           reads_more p c.args.text.now c.loop-rest.rest.now c.next_line.new.line.items c.in-Some.more.now
           c.loop-rest.count
-          (seen_of c.loop-rest.follower) c.in_ok-ended.ended c.next_line.new.self reads follows begins;
+          (seen_by_follower c.loop-rest.follower) c.in_ok-ended.ended c.next_line.new.self reads follows begins;
     }
 
 -- each part of an image has a byte

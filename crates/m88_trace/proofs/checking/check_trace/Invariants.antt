@@ -3,7 +3,7 @@ use Rattle.std.proofs.Common.{◌≡◌, ◌≤◌, ◌+◌, false, length}
 use Rattle.m88_isa.specs.ImageProgram.{IsProgramOf}
 use Rattle.m88_isa.specs.Machine.{Program}
 use Rattle.m88_trace.proofs.Reading.{Reads}
-use Rattle.m88_trace.specs.Inside.Doings.{IsReady, seen_of}
+use Rattle.m88_trace.specs.Inside.Doings.{IsReady, seen_by_follower}
 use Rattle.m88_trace.proofs.checking.check_trace.Given as goal
 
 abbrev pub invariant-loop-rest : goal.invariant-loop-rest
@@ -12,7 +12,7 @@ invariant-loop-rest l = record {
   image : l.follower.memory.image ≡ l.fn.image;
   counted : l.count + length l.rest ≤ length l.fn.text;
   reads : (p : Program) → IsProgramOf l.fn.image p → p.mxm ≡ false
-      → Reads p l.fn.text l.rest l.count (seen_of l.follower) l.ended;
+      → Reads p l.fn.text l.rest l.count (seen_by_follower l.follower) l.ended;
 }
 
 abbrev pub decreases-loop-rest : goal.decreases-loop-rest

@@ -2,7 +2,7 @@
 use Rattle.std.proofs.Common.{ap, refl, sym, subst, ◌++◌, ◌∙◌}
 use Rattle.m88_mem.specs.DataBus.{bus_of}
 use Rattle.m88_trace.proofs.Following.{ends_stay}
-use Rattle.m88_trace.specs.Inside.Doings.{CanDo, HasDone, doing_line, seen_of}
+use Rattle.m88_trace.specs.Inside.Doings.{CanDo, HasDone, doing_line, seen_by_follower}
 use Rattle.m88_trace.specs.declared.doing.Doing.{Doing}
 use Rattle.m88_trace.proofs.follower.Follower.carry_out.Goals as goal
 
@@ -32,5 +32,5 @@ returns-in_ok-push_end-in-Ends-clause-done c =
           c.in_ok-push_end-in-Ends.ensures
           ∙ sym (ap (λ (d : Doing).
           c.args.line.now.items ++ doing_line c.args.number f.pc c.args.word d (bus_of f.memory)) c.in-Ends.is);
-      seen = ends_stay c.args.doing.now c.in-Ends.end (seen_of f) c.in-Ends.is;
+      seen = ends_stay c.args.doing.now c.in-Ends.end (seen_by_follower f) c.in-Ends.is;
     }

@@ -6,7 +6,7 @@ use Rattle.m88_base.specs.Image.{byte_at}
 use Rattle.m88_isa.specs.Machine.{four_bytes, turn}
 use Rattle.m88_mem.specs.DataBus.{bus_of}
 use Rattle.m88_trace.proofs.Following.{end_is, line_is, ok_both_of, seen_is, word_is}
-use Rattle.m88_trace.specs.Inside.Doings.{after_doing, doing_line, doing_of, ends_by, seen_of}
+use Rattle.m88_trace.specs.Inside.Doings.{after_doing, doing_line, doing_of, ends_by, seen_by_follower}
 use Rattle.m88_trace.specs.declared.doing.Doing.{Doing}
 use Rattle.m88_trace.specs.declared.doing.Place.{Place}
 use Rattle.m88_trace.proofs.follower.Follower.next_line.Goals as goal
@@ -30,11 +30,11 @@ returns c =
                 done.line
                 ∙ ap₂ (λ (xs : List ℕ) (d : Doing). xs ++ doing_line c.args.number f.pc c.unwrap_or.result d
                 (bus_of f.memory)) c.clear.ensures.items does
-                ∙ line_is p c.args.number (seen_of f) c.unwrap_or.result is clear seen
+                ∙ line_is p c.args.number (seen_by_follower f) c.unwrap_or.result is clear seen
                 (c.unwrap_or.ensures ∙ word_is p f.memory.image f.pc c.fetch-word.result of
                 (subst (λ (n : ℕ). n < 2 ^ 32) c.unwrap_or.ensures small) c.fetch-word.ensures);
-            seen = seen_is p c.args.number (seen_of f) (seen_of c.carry_out.new.self) is clear seen
-                (done.seen ∙ ap (λ (d : Doing). after_doing d (seen_of f)) does);
-            ended = ends ∙ ap ends_by does ∙ end_is p c.args.number (seen_of f) clear seen;
+            seen = seen_is p c.args.number (seen_by_follower f) (seen_by_follower c.carry_out.new.self) is clear seen
+                (done.seen ∙ ap (λ (d : Doing). after_doing d (seen_by_follower f)) does);
+            ended = ends ∙ ap ends_by does ∙ end_is p c.args.number (seen_by_follower f) clear seen;
           };
     })

@@ -5,7 +5,7 @@ use Rattle.m88_isa.specs.Bus.{bus_after_all}
 use Rattle.m88_isa.specs.declared.planned.Access.{Access}
 use Rattle.m88_trace.proofs.Joined.{begun_put}
 use Rattle.m88_trace.proofs.Writing.{accesses_by, made_more, open_by, opened_at, opened_long, room_by_open}
-use Rattle.m88_trace.specs.Inside.Sheets.{AreWords, waiting_of, written_by}
+use Rattle.m88_trace.specs.Inside.Sheets.{AllWordAccesses, sheet_accesses, sheet_text}
 use Rattle.m88_trace.specs.Lines.{access_head, datum_by, head_text, written_text}
 use Rattle.m88_trace.specs.declared.waiting.Waiting.{Waiting}
 use Rattle.m88_trace.proofs.sheet.Sheet.begin.Goals as goal
@@ -43,12 +43,12 @@ returns c =
           open_by s.text.items all (codes "????????") (s.text.items ++ all) new
           s.waiting.items c.push_waiting.new.list.items w bus c.requires.made.room c.in_ok-push_waiting.ensures
           refl at put refl
-          ∙ ap (λ (xs : List ℕ). written_by s bus ++ xs)
-          (append_assoc (head ++ written) (access_head a) (hex8 (datum_by a (bus_after_all (waiting_of s) bus))));
+          ∙ ap (λ (xs : List ℕ). sheet_text s bus ++ xs)
+          (append_assoc (head ++ written) (access_head a) (hex8 (datum_by a (bus_after_all (sheet_accesses s) bus))));
       waiting = waits;
       made = record {
-        words = subst (λ (xs : List Access). AreWords xs) (sym waits)
-            (made_more (waiting_of s) a c.requires.made.words c.requires.word);
+        words = subst (λ (xs : List Access). AllWordAccesses xs) (sym waits)
+            (made_more (sheet_accesses s) a c.requires.made.words c.requires.word);
         room =
             room_by_open s.text.items all (codes "????????") (s.text.items ++ all) new
             s.waiting.items c.push_waiting.new.list.items w c.requires.made.room c.in_ok-push_waiting.ensures

@@ -2,7 +2,7 @@
 use Rattle.std.proofs.Common.{arith, ap, drop, refl, sym, ◌≡◌, ◌<◌, ◌∷◌, ◌∙◌, List, length}
 use Rattle.m88_base.specs.Hex.{hex8}
 use Rattle.m88_trace.proofs.Writing.{filled_by, first_removed, items_put, made_left, none_filled, room_filled, room_first, vec_empty, vec_some}
-use Rattle.m88_trace.specs.Inside.Sheets.{accesses_of}
+use Rattle.m88_trace.specs.Inside.Sheets.{waiting_accesses}
 use Rattle.m88_trace.specs.declared.waiting.Waiting.{Waiting}
 use Rattle.m88_trace.proofs.sheet.Sheet.fill.Goals as goal
 
@@ -32,7 +32,7 @@ returns c =
     (room_first (length s.text.items) s.waiting.items left w first c.requires.room) in
     record {
       text = λ bus values are. filled_by s.text.items _ s.waiting.items left w c.args.datum values bus first put are;
-      waiting = sym (ap (λ (ws : List Waiting). drop 1 (accesses_of ws)) first);
+      waiting = sym (ap (λ (ws : List Waiting). drop 1 (waiting_accesses ws)) first);
       made = record {
         words = made_left s.waiting.items left w first c.requires.words;
         room = room_filled s.text.items _ s.waiting.items left w c.args.datum first put c.requires.room;

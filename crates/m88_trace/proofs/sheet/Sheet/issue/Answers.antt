@@ -6,7 +6,7 @@ use Rattle.m88_isa.specs.Bus.{bus_after_all}
 use Rattle.m88_isa.specs.declared.planned.Access.{Access}
 use Rattle.m88_trace.proofs.Joined.{line_alone, line_by, listed_none, waits_by}
 use Rattle.m88_trace.proofs.Writing.{more_by, room_by}
-use Rattle.m88_trace.specs.Inside.Sheets.{text_by, waiting_of, written_by}
+use Rattle.m88_trace.specs.Inside.Sheets.{text_by, sheet_accesses, sheet_text}
 use Rattle.m88_trace.specs.Lines.{head_text, written_text}
 use Rattle.m88_trace.proofs.sheet.Sheet.issue.Goals as goal
 
@@ -23,11 +23,11 @@ returns-then-effect-eq0 c =
     record {
       text = λ bus.
           more_by s.text.items new line s.waiting.items bus c.requires.made.room c.in_ok-push_line.ensures
-          ∙ ap (λ (xs : List ℕ). written_by s bus ++ xs)
-          (line_alone accesses (bus_after_all (waiting_of s) bus) head written none);
+          ∙ ap (λ (xs : List ℕ). sheet_text s bus ++ xs)
+          (line_alone accesses (bus_after_all (sheet_accesses s) bus) head written none);
       waiting =
-          sym (ap (λ (xs : List Access). waiting_of s ++ xs) (listed_none accesses none)
-          ∙ append-nil (waiting_of s));
+          sym (ap (λ (xs : List Access). sheet_accesses s ++ xs) (listed_none accesses none)
+          ∙ append-nil (sheet_accesses s));
       made = record {
         words = c.requires.made.words;
         room = room_by s.text.items new line s.waiting.items c.requires.made.room c.in_ok-push_line.ensures;
@@ -45,13 +45,13 @@ returns c =
     let new = c.push_line_end.new.text.items in
     record {
       text = λ bus.
-          line_by (written_by s bus) (written_by c.begin.new.self bus) (written_by t bus)
+          line_by (sheet_text s bus) (sheet_text c.begin.new.self bus) (sheet_text t bus)
           (text_by new t.waiting.items bus) (head_text next.number next.at c.args.word) (written_text effect.reg)
-          (waiting_of s) (waiting_of c.begin.new.self) effect.accesses bus (omega arith) (begun.text bus) begun.waiting
+          (sheet_accesses s) (sheet_accesses c.begin.new.self) effect.accesses bus (omega arith) (begun.text bus) begun.waiting
           (opened.text bus)
           (more_by t.text.items new line_end t.waiting.items bus opened.made.room c.in_ok-push_line_end.ensures);
       waiting =
-          waits_by (waiting_of s) (waiting_of c.begin.new.self) (waiting_of t) effect.accesses (omega arith)
+          waits_by (sheet_accesses s) (sheet_accesses c.begin.new.self) (sheet_accesses t) effect.accesses (omega arith)
           begun.waiting opened.waiting;
       made = record {
         words = opened.made.words;

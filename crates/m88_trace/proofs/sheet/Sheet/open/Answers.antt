@@ -2,7 +2,7 @@
 use Rattle.std.proofs.Common.{List, ◌++◌, ◌-◌, ◌∙◌, append_assoc, arith, codes, refl, sym, subst}
 use Rattle.m88_isa.specs.declared.planned.Access.{Access}
 use Rattle.m88_trace.proofs.Writing.{accesses_by, made_more, open_by, opened_at, opened_long, room_by_open}
-use Rattle.m88_trace.specs.Inside.Sheets.{AreWords, waiting_of}
+use Rattle.m88_trace.specs.Inside.Sheets.{AllWordAccesses, sheet_accesses}
 use Rattle.m88_trace.specs.Lines.{access_head}
 use Rattle.m88_trace.specs.declared.waiting.Waiting.{Waiting}
 use Rattle.m88_trace.proofs.sheet.Sheet.open.Goals as goal
@@ -28,8 +28,8 @@ returns c =
           refl at put refl;
       waiting = waits;
       made = record {
-        words = subst (λ (xs : List Access). AreWords xs) (sym waits)
-            (made_more (waiting_of s) a c.requires.made.words c.requires.word);
+        words = subst (λ (xs : List Access). AllWordAccesses xs) (sym waits)
+            (made_more (sheet_accesses s) a c.requires.made.words c.requires.word);
         room =
             room_by_open s.text.items (access_head a) (codes "????????") (s.text.items ++ access_head a) next
             s.waiting.items c.push_waiting.new.list.items w c.requires.made.room c.in_ok-push_waiting.ensures
