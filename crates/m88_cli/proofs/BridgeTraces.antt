@@ -6,7 +6,7 @@ use Rattle.m88_isa.specs.Mnemonic.{text_of}
 use Rattle.m88_parse.proofs.Laws.{ended_parted, ended_unit}
 use Rattle.m88_parse.specs.Inside.Directives.{all_directives, directive_text}
 use Rattle.m88_parse.specs.Inside.Source.{operation_at, row_at, row_of_line}
-use Rattle.m88_parse.specs.Inside.Tokens.{front, pieces}
+use Rattle.m88_parse.specs.Inside.Tokens.{front, pieces_from}
 use Rattle.m88_parse.specs.Language.Ended.{ended}
 use Rattle.m88_parse.specs.declared.fault.ParseFault.{ParseFault}
 use Rattle.m88_parse.specs.declared.fault.ParseKind.TheVariants.{NoSuchName}
@@ -20,7 +20,7 @@ use Rattle.m88_cli.specs.Traces.{TracesTo}
 
 -- no operation is called `trace`, so no source that has a unit has a line `trace`
 unread : (number : ℕ) → (fault : ParseFault) × (row_of_line number trace_separator ≡ Err fault)
-unfolding row_of_line row_at operation_at pieces front text_of begun_with directive_text all_directives
+unfolding row_of_line row_at operation_at pieces_from front text_of begun_with directive_text all_directives
 unread number = (record { line = number; col = 1; kind = NoSuchName }, refl)
 
 -- which stands before what is behind it

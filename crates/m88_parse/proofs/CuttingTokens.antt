@@ -7,44 +7,44 @@ use Rattle.m88_parse.specs.declared.token.Token.{Token}
 use Rattle.m88_parse.specs.Language.Pieces.{IsSlice, IsTokenOf, PlainToken, plain_token, token_of, TokenValue, Piece}
 use Rattle.m88_parse.specs.declared.fault.ParseFault.{ParseFault}
 use Rattle.m88_parse.specs.declared.scan.Flaw.{Flaw}
-use Rattle.m88_parse.specs.Inside.Tokens.{piece_in, text_in, Cut, front, pieces, pieces_of, prepend, fault_at, tokens_from, tokens_of}
+use Rattle.m88_parse.specs.Inside.Tokens.{piece_in, text_in, Cut, front, pieces_from, pieces_of, prepend, fault_at, tokens_from, tokens_of}
 
 -- what was cut off before, and what is still cut
 abbrev pub with_front : List Piece → Result (List Piece) ParseFault → Result (List Piece) ParseFault
 with_front done (Ok ps) = Ok (done ++ ps)
 with_front done (Err e) = Err e
 
-skipped : (line k col : ℕ) (bs : List ℕ) → pieces line k col bs ≡ pieces line 0 (col + k) (drop k bs)
-unfolding pieces
-skipped line zero col bs = let e : col ≡ col + 0 = omega arith in ap (λ (n : ℕ). pieces line 0 n bs) e
+skipped : (line k col : ℕ) (bs : List ℕ) → pieces_from line k col bs ≡ pieces_from line 0 (col + k) (drop k bs)
+unfolding pieces_from
+skipped line zero col bs = let e : col ≡ col + 0 = omega arith in ap (λ (n : ℕ). pieces_from line 0 n bs) e
 skipped line (suc k) col [] = refl
 skipped line (suc k) col (b ∷ bs) =
     let e : col + 1 + k ≡ col + suc k = omega arith in
-    skipped line k (col + 1) bs ∙ ap (λ (n : ℕ). pieces line 0 n (drop k bs)) e
+    skipped line k (col + 1) bs ∙ ap (λ (n : ℕ). pieces_from line 0 n (drop k bs)) e
 
-one_step : (line col b len : ℕ) (bs : List ℕ) → 0 < len → pieces line (len - 1) (col + 1) bs ≡ pieces line 0 (col + len) (drop len (b ∷ bs))
+one_step : (line col b len : ℕ) (bs : List ℕ) → 0 < len → pieces_from line (len - 1) (col + 1) bs ≡ pieces_from line 0 (col + len) (drop len (b ∷ bs))
 one_step line col b zero bs h = absurd (omega arith)
 one_step line col b (suc k) bs h =
     let e : suc k - 1 ≡ k = omega arith in
     let f : col + 1 + k ≡ col + suc k = omega arith in
-    ap (λ (n : ℕ). pieces line n (col + 1) bs) e ∙ skipped line k (col + 1) bs ∙ ap (λ (n : ℕ). pieces line 0 n (drop k bs)) f
+    ap (λ (n : ℕ). pieces_from line n (col + 1) bs) e ∙ skipped line k (col + 1) bs ∙ ap (λ (n : ℕ). pieces_from line 0 n (drop k bs)) f
 
 -- a line by what its front is
 abbrev at_front : ℕ → ℕ → ℕ → List ℕ → Result Cut Flaw → Result (List Piece) ParseFault
 at_front line col b bs r = elim r [
-  | Ok c ↦ prepend c.says col (take c.len (b ∷ bs)) (pieces line (c.len - 1) (col + 1) bs)
+  | Ok c ↦ prepend c.says col (take c.len (b ∷ bs)) (pieces_from line (c.len - 1) (col + 1) bs)
   | Err f ↦ Err (fault_at line col f)
 ]
 
 pub cut_off : (line col : ℕ) (bs : List ℕ) (c : Cut) → 0 < length bs → front bs ≡ Ok c → 0 < c.len
-    → pieces line 0 col bs ≡ prepend c.says col (take c.len bs) (pieces line 0 (col + c.len) (drop c.len bs))
-unfolding pieces
+    → pieces_from line 0 col bs ≡ prepend c.says col (take c.len bs) (pieces_from line 0 (col + c.len) (drop c.len bs))
+unfolding pieces_from
 cut_off line col [] c h e k = absurd (omega arith)
 cut_off line col (b ∷ bs) c h e k =
     ap (at_front line col b bs) e ∙ ap (prepend c.says col (take c.len (b ∷ bs))) (one_step line col b c.len bs k)
 
-pub fault_front : (line col : ℕ) (bs : List ℕ) (f : Flaw) → 0 < length bs → front bs ≡ Err f → pieces line 0 col bs ≡ Err (fault_at line col f)
-unfolding pieces
+pub fault_front : (line col : ℕ) (bs : List ℕ) (f : Flaw) → 0 < length bs → front bs ≡ Err f → pieces_from line 0 col bs ≡ Err (fault_at line col f)
+unfolding pieces_from
 fault_front line col [] f h e = absurd (omega arith)
 fault_front line col (b ∷ bs) f h e = ap (at_front line col b bs) e
 
@@ -53,22 +53,22 @@ regroup done p (Ok ps) = ap (λ (xs : List Piece). let r : Result (List Piece) P
 regroup done p (Err e) = refl
 
 pub gap_goes_on : (line col len : ℕ) (bs : List ℕ) (done : List Piece) (total : Result (List Piece) ParseFault) → 0 < length bs → front bs ≡ Ok (record { len = len; says = None }) → 0 < len
-    → with_front done (pieces line 0 col bs) ≡ total → with_front done (pieces line 0 (col + len) (drop len bs)) ≡ total
+    → with_front done (pieces_from line 0 col bs) ≡ total → with_front done (pieces_from line 0 (col + len) (drop len bs)) ≡ total
 gap_goes_on line col len bs done total h e k so_far = ap (with_front done) (sym (cut_off line col bs (record { len = len; says = None }) h e k)) ∙ so_far
 
 pub token_goes_on : (line col len : ℕ) (m : TokenValue) (bs : List ℕ) (done : List Piece) (total : Result (List Piece) ParseFault) → 0 < length bs → front bs ≡ Ok (record { len = len; says = Some m }) → 0 < len
-    → with_front done (pieces line 0 col bs) ≡ total → with_front (done ++ record { text = take len bs; col = col; says = m } ∷ []) (pieces line 0 (col + len) (drop len bs)) ≡ total
+    → with_front done (pieces_from line 0 col bs) ≡ total → with_front (done ++ record { text = take len bs; col = col; says = m } ∷ []) (pieces_from line 0 (col + len) (drop len bs)) ≡ total
 token_goes_on line col len m bs done total h e k so_far =
-    let rest = pieces line 0 (col + len) (drop len bs) in
+    let rest = pieces_from line 0 (col + len) (drop len bs) in
     sym (regroup done (record { text = take len bs; col = col; says = m }) rest) ∙ ap (with_front done) (sym (cut_off line col bs (record { len = len; says = Some m }) h e k)) ∙ so_far
 
 pub ends : (line col : ℕ) (bs : List ℕ) (f : Flaw) (done : List Piece) (total : Result (List Piece) ParseFault) → 0 < length bs → front bs ≡ Err f
-    → with_front done (pieces line 0 col bs) ≡ total → total ≡ Err (fault_at line col f)
+    → with_front done (pieces_from line 0 col bs) ≡ total → total ≡ Err (fault_at line col f)
 ends line col bs f done total h e so_far = sym so_far ∙ ap (with_front done) (fault_front line col bs f h e)
 
 pub is_done : (line col : ℕ) (bs : List ℕ) (done : List Piece) (total : Result (List Piece) ParseFault) → length bs ≡ 0
-    → with_front done (pieces line 0 col bs) ≡ total → total ≡ Ok done
-unfolding pieces
+    → with_front done (pieces_from line 0 col bs) ≡ total → total ≡ Ok done
+unfolding pieces_from
 is_done line col [] done total h so_far = sym so_far ∙ ap (λ (xs : List Piece). let r : Result (List Piece) ParseFault = Ok xs in r) (append-nil done)
 is_done line col (b ∷ bs) done total h so_far = absurd (omega arith)
 

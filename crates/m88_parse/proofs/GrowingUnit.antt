@@ -11,20 +11,20 @@ use Rattle.m88_parse.specs.Language.Pieces.{Piece}
 use Rattle.m88_parse.specs.Inside.Tokens.{pieces_of}
 use Rattle.m88_parse.specs.Inside.State.{ReaderState, ◌>>=◌}
 use Rattle.m88_base.specs.Lines.{lines_of}
-use Rattle.m88_parse.specs.Inside.Source.{Row, a_statement, a_head, end_of_line, grouped, row_at, row_of_line, row_of_pieces, rows_of, with_row, unit_of_rows, unit_of}
+use Rattle.m88_parse.specs.Inside.Source.{SourceRow, a_statement, a_head, end_of_line, grouped, row_at, row_of_line, row_of_pieces, rows_of, with_row, unit_of_rows, unit_of}
 use Rattle.m88_parse.specs.Inside.Drafts.{Drafted, nothing_yet, with_more, modules_with, modules_after, begun, leads, Follows, GoesOn, LeadsOn, EndsWith}
 
 more_first : (closed : List Module) (m : Module) (x : Statement) (g : List Statement) (ms : List Module)
     → closed ++ with_more (with_more m (x ∷ [])) g ∷ ms ≡ closed ++ with_more m (x ∷ g) ∷ ms
 more_first closed m x g ms = ap (λ (xs : List Statement). closed ++ (record { name = m.name; line = m.line; statements = xs }) ∷ ms) (append_assoc m.statements (x ∷ []) g)
 
-after_statement : (closed : List Module) (current : Option Module) (x : Statement) (rows : List Row)
+after_statement : (closed : List Module) (current : Option Module) (x : Statement) (rows : List SourceRow)
     → modules_with closed (Some (with_more (begun current) (x ∷ []))) rows ≡ modules_with closed current (a_statement x ∷ rows)
 unfolding grouped
 after_statement closed None x rows = refl
 after_statement closed (Some m) x rows = more_first closed m x (grouped rows).0 (grouped rows).1
 
-after_head : (closed : List Module) (m next : Module) (rows : List Row) → next.statements ≡ []
+after_head : (closed : List Module) (m next : Module) (rows : List SourceRow) → next.statements ≡ []
     → modules_with (closed ++ m ∷ []) (Some next) rows ≡ modules_with closed (Some m) (a_head next.name next.line ∷ rows)
 unfolding grouped
 after_head closed m next rows e =
@@ -33,7 +33,7 @@ after_head closed m next rows e =
     ∙ ap (λ (xs : List Statement). closed ++ (record { name = m.name; line = m.line; statements = xs }) ∷ with_more next (grouped rows).0 ∷ rest) (sym (append-nil m.statements))
     ∙ ap (λ (xs : List Statement). closed ++ with_more m [] ∷ record { name = next.name; line = next.line; statements = xs ++ (grouped rows).0 } ∷ rest) e
 
-after_first_head : (closed : List Module) (next : Module) (rows : List Row) → next.statements ≡ []
+after_first_head : (closed : List Module) (next : Module) (rows : List SourceRow) → next.statements ≡ []
     → modules_with closed (Some next) rows ≡ modules_with closed None (a_head next.name next.line ∷ rows)
 unfolding grouped
 after_first_head closed next rows e =
@@ -64,16 +64,16 @@ pub first_head_follows : (closed : List Module) (next : Module) (d : Drafted) �
     → Follows (record { closed = closed; current = Some next }) d (Some (a_head next.name next.line))
 first_head_follows closed next d n e rows = after_first_head closed next rows n ∙ ap (λ (k : Drafted). modules_after k (a_head next.name next.line ∷ rows)) e
 
-leads_on : (after before : Drafted) (r : Option Row) (read : Result (List Row) ParseFault)
+leads_on : (after before : Drafted) (r : Option SourceRow) (read : Result (List SourceRow) ParseFault)
     → Follows after before r → leads after read ≡ leads before (read >>= λ rows. Ok (with_row r rows))
 leads_on after before r (Ok rows) h = ap (λ (ms : List Module). let u : Result Source ParseFault = Ok (record { modules = ms }) in u) (h rows)
 leads_on after before r (Err e) h = refl
 
-by_row : (number : ℕ) (lines : List (List ℕ)) → Result (Option Row) ParseFault → Result (List Row) ParseFault
+by_row : (number : ℕ) (lines : List (List ℕ)) → Result (Option SourceRow) ParseFault → Result (List SourceRow) ParseFault
 unfolding rows_of
 by_row number lines r = r >>= λ x. rows_of (number + 1) lines >>= λ rows. Ok (with_row x rows)
 
-pub line_leads_on : (number : ℕ) (line : List ℕ) (after before : Drafted) (r : Option Row)
+pub line_leads_on : (number : ℕ) (line : List ℕ) (after before : Drafted) (r : Option SourceRow)
     → row_of_line number line ≡ Ok r → Follows after before r → LeadsOn number line after before
 unfolding rows_of by_row
 line_leads_on number line after before r e h lines =
@@ -86,7 +86,7 @@ unfolding rows_of by_row
 line_ends_with number line before f e lines = ap (λ x. leads before (by_row number lines x)) e
 
 -- before the first line
-start : (r : Result (List Row) ParseFault) → leads nothing_yet r ≡ (r >>= λ rows. Ok (unit_of_rows rows))
+start : (r : Result (List SourceRow) ParseFault) → leads nothing_yet r ≡ (r >>= λ rows. Ok (unit_of_rows rows))
 start (Ok rows) = refl
 start (Err e) = refl
 
@@ -114,7 +114,7 @@ unfolding row_of_line
 no_tokens number line d [] e h = line_leads_on number line d d None (ap (λ r. r >>= λ ps. row_of_pieces number ps) e) (λ rows. refl)
 no_tokens number line d (p ∷ ps) e h = absurd (omega arith)
 
-by_reading : {X : Type 0} (r : Result X ParseFault) (number : ℕ) (line : List ℕ) (after before : Drafted) (read : Result Row ParseFault)
+by_reading : {X : Type 0} (r : Result X ParseFault) (number : ℕ) (line : List ℕ) (after before : Drafted) (read : Result SourceRow ParseFault)
     → row_of_line number line ≡ (read >>= λ x. Ok (Some x)) → OnOk r (GoesOn after before read) → IfErr r (λ e. (e ≡ out_of_memory) ⊎ (read ≡ Err e))
     → MatchResult r (λ y. LeadsOn number line after before) (λ e. (e ≡ out_of_memory) ⊎ EndsWith number line before e)
 by_reading (Ok y) number line after before (Ok x) e h k = line_leads_on number line after before (Some x) e h

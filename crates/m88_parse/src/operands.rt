@@ -1,7 +1,7 @@
 //! Operands of several tokens, each from the place where it is wanted.
 ghost use Rattle.std.specs.Prelude.{◌≡◌, ◌≤◌, ◌<◌, ◌^◌, IfOk};
 ghost use Rattle.m88_parse.specs.Fault.{Gives};
-ghost use Rattle.m88_parse.specs.Inside.Operands.{AreWords, half, half_immediate, half_on, half_at, immediate_at, register_in, operand_at, bound_at, scaled_at, index_at, user_index_at, width_at, literal_at, field_at, distance_at, words_at, is_here_on, target_at};
+ghost use Rattle.m88_parse.specs.Inside.Operands.{AreWordsWithin, half, half_immediate, half_on, half_at, immediate_at, register_in, operand_at, bound_at, scaled_at, index_at, user_index_at, width_at, literal_at, field_at, distance_at, words_at, is_here_on, target_at};
 ghost use Rattle.m88_parse.specs.Inside.State.{first, second};
 
 use crate::fault::{ParseFault, ParseKind};
@@ -221,7 +221,7 @@ impl<'a> Parser<'a> {
         requires least { 0 < limit }
         requires most { limit ≤ 2 ^ 25 }
         ensures value { Gives (λ n. (n, self.new)) result (words_at limit self.old) }
-        ensures fits { IfOk result (AreWords limit) }
+        ensures fits { IfOk result (AreWordsWithin limit) }
     {
         if self.is_next(b'+') {
             self.skip();
@@ -250,7 +250,7 @@ impl<'a> Parser<'a> {
         requires least { 0 < limit }
         requires most { limit ≤ 2 ^ 25 }
         ensures value { Gives (λ x. (x, self.new)) result (target_at kind limit self.old) }
-        ensures fits { IfOk result (λ x. AreWords limit x.words) }
+        ensures fits { IfOk result (λ x. AreWordsWithin limit x.words) }
     {
         if self.is_here() {
             self.skip();

@@ -8,7 +8,7 @@ use Rattle.m88_parse.specs.Inside.Tokens.{pieces_of}
 use Rattle.m88_parse.specs.Language.Pieces.{Piece}
 use Rattle.m88_parse.specs.Inside.State.{◌>>=◌}
 use Rattle.m88_base.specs.Lines.{lines_of}
-use Rattle.m88_parse.specs.Inside.Source.{Row, row_of_pieces, row_of_line, with_row, rows_of, unit_of_rows, unit_of}
+use Rattle.m88_parse.specs.Inside.Source.{SourceRow, row_of_pieces, row_of_line, with_row, rows_of, unit_of_rows, unit_of}
 use Rattle.m88_parse.specs.Language.Tokens.{LineTokens}
 use Rattle.m88_parse.specs.Language.Units.{IsUnit}
 use Rattle.m88_parse.specs.Language.LineFaults.{IsLineFault}
@@ -33,8 +33,8 @@ bind_failed : {A B : Type 0} (r : Result A ParseFault) (f : A → Result B Parse
 bind_failed (Ok x) f e h = inr (x, refl, h)
 bind_failed (Err g) f e h = inl (ap (λ (k : ParseFault). let r : Result _ ParseFault = Err k in r) (err_same h))
 
-abbrev Rest : ℕ → List (List ℕ) → Option Row → Result (List Row) ParseFault
-Rest number lines r = rows_of (number + 1) lines >>= λ (rs : List Row). Ok (with_row r rs)
+abbrev Rest : ℕ → List (List ℕ) → Option SourceRow → Result (List SourceRow) ParseFault
+Rest number lines r = rows_of (number + 1) lines >>= λ (rs : List SourceRow). Ok (with_row r rs)
 
 -- what is read is related
 
@@ -51,7 +51,7 @@ first_related number (line ∷ lines) f h =
             | inr k ↦ at_tokens k.0 (line_is_cut number line k.0 k.1) (line_fault_told number k.0 f k.2)
           ]
       | inr j ↦
-          elim (bind_failed (rows_of (number + 1) lines) (λ (rs : List Row). let y : Result (List Row) ParseFault = Ok (with_row j.0 rs) in y) f j.2) [
+          elim (bind_failed (rows_of (number + 1) lines) (λ (rs : List SourceRow). let y : Result (List SourceRow) ParseFault = Ok (with_row j.0 rs) in y) f j.2) [
             | inl k ↦
                 let r = line_row number line j.0 j.1 in
                 later_line r.pieces r.said r.tokens r.line_says (first_related (number + 1) lines f k)
@@ -65,7 +65,7 @@ first_related number (line ∷ lines) f h =
     at_tokens : (ps : List Piece) → LineTokens line ps → LineFaultBy number ps f → FirstOf number (line ∷ lines) f
     at_tokens ps t u = subst (λ (n : ℕ). FirstOf number (line ∷ lines) (record { line = n; col = f.col; kind = f.kind })) u.1 (faulty_line ps t u.0)
 
-    no_err : {rows : List Row} → ◌≡◌ {A = Result (List Row) ParseFault} (Ok rows) (Err f) → ⊥
+    no_err : {rows : List SourceRow} → ◌≡◌ {A = Result (List SourceRow) ParseFault} (Ok rows) (Err f) → ⊥
     no_err e = cc
 
 -- what is related is read
@@ -76,12 +76,12 @@ same_fault l m a b j k x y z = λ i. record { line = x i; col = y i; kind = z i 
 line_fault_read : (number : ℕ) (ps : List Piece) (at : ℕ) (kind : ParseKind) → IsLineFault ps at kind → row_of_pieces number ps ≡ Err (record { line = number; col = at; kind = kind })
 line_fault_read number ps at kind u = by_result (row_of_pieces number ps) refl
   where
-    by_result : (r : Result (Option Row) ParseFault) → row_of_pieces number ps ≡ r → row_of_pieces number ps ≡ Err (record { line = number; col = at; kind = kind })
+    by_result : (r : Result (Option SourceRow) ParseFault) → row_of_pieces number ps ≡ r → row_of_pieces number ps ≡ Err (record { line = number; col = at; kind = kind })
     by_result (Ok o) e = let w = line_read number ps o e in absurd (said_not_faulty number ps w.0 at kind w.1 u)
     by_result (Err f) e =
         let w = line_fault_told number ps f e in
         let same = one_line_fault ps f.col at f.kind kind w.0 u in
-        e ∙ ap (λ (g : ParseFault). let r : Result (Option Row) ParseFault = Err g in r) (same_fault f.line number f.col at f.kind kind (sym w.1) same.0 same.1)
+        e ∙ ap (λ (g : ParseFault). let r : Result (Option SourceRow) ParseFault = Err g in r) (same_fault f.line number f.col at f.kind kind (sym w.1) same.0 same.1)
 
 first_read : {number : ℕ} {lines : List (List ℕ)} {f : ParseFault} → FirstOf number lines f → rows_of number lines ≡ Err f
 unfolding rows_of row_of_line
@@ -93,14 +93,14 @@ first_read (faulty_line {number = number} {line = line} {lines = lines} ps {at =
     bind_err (row_of_line number line) (Rest number lines) e (bind_to (pieces_of number line) (λ (qs : List Piece). row_of_pieces number qs) ps (Err e) (line_is_read number line ps t) (line_fault_read number ps at kind u))
 first_read (later_line {number = number} {line = line} {lines = lines} ps said {fault = fault} t h g) =
     bind_to (row_of_line number line) (Rest number lines) (row_for number said) (Err fault) (row_again number line ps said t h)
-    (bind_err (rows_of (number + 1) lines) (λ (rs : List Row). let y : Result (List Row) ParseFault = Ok (with_row (row_for number said) rs) in y) fault (first_read g))
+    (bind_err (rows_of (number + 1) lines) (λ (rs : List SourceRow). let y : Result (List SourceRow) ParseFault = Ok (with_row (row_for number said) rs) in y) fault (first_read g))
 
 -- sources
 
 pub fault_is_related : (source : List ℕ) (f : ParseFault) → unit_of source ≡ Err f → IsFirstFault source f
 unfolding unit_of
 fault_is_related source f h =
-    elim (bind_failed (rows_of 1 (lines_of source)) (λ (rows : List Row). let y : Result Source ParseFault = Ok (unit_of_rows rows) in y) f h) [
+    elim (bind_failed (rows_of 1 (lines_of source)) (λ (rows : List SourceRow). let y : Result Source ParseFault = Ok (unit_of_rows rows) in y) f h) [
       | inl k ↦ first_related 1 (lines_of source) f k
       | inr k ↦ absurd (no_err k.2)
     ]
@@ -111,7 +111,7 @@ fault_is_related source f h =
 pub related_fault_is_read : (source : List ℕ) (f : ParseFault) → IsFirstFault source f → unit_of source ≡ Err f
 unfolding unit_of
 related_fault_is_read source f h =
-    bind_err (rows_of 1 (lines_of source)) (λ (rows : List Row). let y : Result Source ParseFault = Ok (unit_of_rows rows) in y) f (first_read h)
+    bind_err (rows_of 1 (lines_of source)) (λ (rows : List SourceRow). let y : Result Source ParseFault = Ok (unit_of_rows rows) in y) f (first_read h)
 
 pub single_fault : (source : List ℕ) (a b : ParseFault) → IsFirstFault source a → IsFirstFault source b → a ≡ b
 single_fault source a b h k = err_same (sym (related_fault_is_read source a h) ∙ related_fault_is_read source b k)

@@ -8,7 +8,7 @@ use Rattle.std.proofs.lemmas.Bool.{eqb-false}
 use Rattle.m88_parse.specs.declared.fault.ParseKind.{ParseKind}
 use Rattle.m88_parse.specs.declared.fault.ParseKind.TheVariants.{NotAscii, Syntax, OutOfRange}
 use Rattle.m88_parse.specs.declared.scan.Flaw.{Flaw}
-use Rattle.m88_parse.specs.Inside.Tokens.{is_hexadecimal, is_decimal, bounded, inside_len, Cut, token_cut, flaw, token_or_flaw, name_front, number_front, quoted_value, quoted, word_front, front, numeral}
+use Rattle.m88_parse.specs.Inside.Tokens.{is_hexadecimal_number, is_decimal, bounded, inside_len, Cut, token_cut, flaw, token_or_flaw, name_front, number_front, quoted_value, quoted, word_front, front, numeral}
 use Rattle.m88_parse.specs.Language.Bytes.{space, tab, is_blank, is_comment, is_plain, is_mark}
 use Rattle.m88_base.specs.Name.{continues_name}
 use Rattle.m88_parse.specs.Language.Pieces.{TokenValue, a_name}
@@ -45,7 +45,7 @@ numeral_of run n (inr h) = at_hexadecimal run n h
 
 numeral_err : (run : List ℕ) (kind : ParseKind) → 0 < length run → numeral run ≡ Err kind → NoNumber run kind
 numeral_err run kind s h =
-    elim (chosen (is_hexadecimal run) (bounded (digits_value 16 (drop 2 run))) (read_decimal run) (Err kind) h) [
+    elim (chosen (is_hexadecimal_number run) (bounded (digits_value 16 (drop 2 run))) (read_decimal run) (Err kind) h) [
       | inl j ↦
           let b = bounded_err (digits_value 16 (drop 2 run)) kind j.1 in
           subst (NoNumber run) b.1 (too_large (digits_value 16 (drop 2 run)) (inr (hexadecimal_is run j.0)) b.0)
@@ -60,7 +60,7 @@ numeral_err run kind s h =
           ]
     ]
   where
-    neither_spelled : (run : List ℕ) → is_hexadecimal run ≡ false → is_decimal run ≡ false → (n : ℕ) → IsNumeral run n → ⊥
+    neither_spelled : (run : List ℕ) → is_hexadecimal_number run ≡ false → is_decimal run ≡ false → (n : ℕ) → IsNumeral run n → ⊥
     neither_spelled run a b n (inl x) = true≢false (sym (is_decimal_again run n x) ∙ b)
     neither_spelled run a b n (inr x) = true≢false (sym (is_hexadecimal_again run x.digits x.bytes x.some x.hexadecimal) ∙ a)
 

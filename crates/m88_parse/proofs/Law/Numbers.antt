@@ -3,13 +3,13 @@ use Rattle.std.proofs.Common.{◌≡◌, ℕ, ◌<◌, ◌≤◌, Bool, true, fa
 use Rattle.std.specs.Str.Parse.{digits_value}
 use Rattle.m88_parse.specs.declared.fault.ParseKind.{ParseKind}
 use Rattle.m88_parse.specs.declared.fault.ParseKind.TheVariants.{Syntax, OutOfRange}
-use Rattle.m88_parse.specs.Inside.Tokens.{is_hexadecimal, is_decimal, bounded, numeral}
+use Rattle.m88_parse.specs.Inside.Tokens.{is_hexadecimal_number, is_decimal, bounded, numeral}
 use Rattle.m88_parse.specs.Language.Bytes.{are_digits}
 use Rattle.m88_parse.specs.Language.Tokens.{IsDecimal, IsHexadecimal, IsNumeral}
 use Rattle.m88_parse.proofs.Law.TestsAndChoices.{both, chosen, not_true, take_then, take_else}
 use Rattle.std.proofs.lemmas.Bool.{eqb-false}
 
-pub hexadecimal_is : (run : List ℕ) → is_hexadecimal run ≡ true → IsHexadecimal run (digits_value 16 (drop 2 run))
+pub hexadecimal_is : (run : List ℕ) → is_hexadecimal_number run ≡ true → IsHexadecimal run (digits_value 16 (drop 2 run))
 hexadecimal_is [] h = absurd cc
 hexadecimal_is (a ∷ []) h = absurd cc
 hexadecimal_is (a ∷ b ∷ []) h = absurd cc
@@ -20,9 +20,9 @@ hexadecimal_is (a ∷ b ∷ d ∷ ds) h =
     let f = eqb-true b 120 k.1 in
     record { digits = d ∷ ds; bytes = cc; some = omega arith; hexadecimal = j.1; value = refl }
 
-pub is_hexadecimal_again : (run digits : List ℕ) → run ≡ 48 ∷ 120 ∷ digits → 0 < length digits → are_digits 16 digits ≡ true → is_hexadecimal run ≡ true
+pub is_hexadecimal_again : (run digits : List ℕ) → run ≡ 48 ∷ 120 ∷ digits → 0 < length digits → are_digits 16 digits ≡ true → is_hexadecimal_number run ≡ true
 is_hexadecimal_again run [] e s h = absurd (omega arith)
-is_hexadecimal_again run (d ∷ ds) e s h = ap is_hexadecimal e ∙ h
+is_hexadecimal_again run (d ∷ ds) e s h = ap is_hexadecimal_number e ∙ h
 
 pub decimal_is : (run : List ℕ) → 0 < length run → is_decimal run ≡ true → IsDecimal run (digits_value 10 run)
 decimal_is [] s h = absurd (omega arith)
@@ -36,7 +36,7 @@ is_decimal_again [] n h = refl
 is_decimal_again (d ∷ []) n h = h.digits
 is_decimal_again (d ∷ e ∷ ds) n h = ap (λ (b : Bool). not b && are_digits 10 (d ∷ e ∷ ds)) (ne_eqb d 48 h.short) ∙ h.digits
 
-not_both : (run : List ℕ) (n : ℕ) → IsDecimal run n → is_hexadecimal run ≡ false
+not_both : (run : List ℕ) (n : ℕ) → IsDecimal run n → is_hexadecimal_number run ≡ false
 not_both [] n h = refl
 not_both (a ∷ []) n h = refl
 not_both (a ∷ b ∷ []) n h = refl
@@ -61,19 +61,19 @@ read_decimal run = if is_decimal run then bounded (digits_value 10 run) else Err
 -- what a numeral's value is bounded to
 pub at_decimal : (run : List ℕ) (n : ℕ) → IsDecimal run n → numeral run ≡ bounded n
 at_decimal run n h =
-    take_else (is_hexadecimal run) (bounded (digits_value 16 (drop 2 run))) (read_decimal run) (not_both run n h)
+    take_else (is_hexadecimal_number run) (bounded (digits_value 16 (drop 2 run))) (read_decimal run) (not_both run n h)
     ∙ take_then (is_decimal run) (bounded (digits_value 10 run)) (Err Syntax) (is_decimal_again run n h)
     ∙ ap bounded (sym h.value)
 
 pub at_hexadecimal : (run : List ℕ) (n : ℕ) → IsHexadecimal run n → numeral run ≡ bounded n
 at_hexadecimal run n h =
     let e : digits_value 16 (drop 2 run) ≡ n = ap (λ (bs : List ℕ). digits_value 16 (drop 2 bs)) h.bytes ∙ sym h.value in
-    take_then (is_hexadecimal run) (bounded (digits_value 16 (drop 2 run))) (read_decimal run) (is_hexadecimal_again run h.digits h.bytes h.some h.hexadecimal)
+    take_then (is_hexadecimal_number run) (bounded (digits_value 16 (drop 2 run))) (read_decimal run) (is_hexadecimal_again run h.digits h.bytes h.some h.hexadecimal)
     ∙ ap bounded e
 
 pub number_is : (run : List ℕ) (n : ℕ) → 0 < length run → numeral run ≡ Ok n → IsNumeral run n × (n < 4294967296)
 number_is run n s h =
-    elim (chosen (is_hexadecimal run) (bounded (digits_value 16 (drop 2 run))) (read_decimal run) (Ok n) h) [
+    elim (chosen (is_hexadecimal_number run) (bounded (digits_value 16 (drop 2 run))) (read_decimal run) (Ok n) h) [
       | inl j ↦ let b = bounded_is (digits_value 16 (drop 2 run)) n j.1 in (inr (rw b.0 (hexadecimal_is run j.0)), b.1)
       | inr j ↦
           elim (chosen (is_decimal run) (bounded (digits_value 10 run)) (Err Syntax) (Ok n) j.1) [

@@ -8,7 +8,7 @@ use Rattle.m88_parse.specs.Inside.Names.{is_module}
 use Rattle.m88_parse.specs.Language.Pieces.{TokenValue, a_name, a_number, a_text, a_mark, Piece}
 use Rattle.m88_parse.specs.Inside.State.{says_first, first, past, is_mark_of}
 use Rattle.m88_parse.specs.Inside.Slots.{any_name_at}
-use Rattle.m88_parse.specs.Inside.Source.{Row, a_statement, a_head, operation_on, operation_at, statement, labelled_on, labelled_at, unlabelled_at, head_at, is_label_on, is_head_on, row_at, end_of_line, row_of_pieces}
+use Rattle.m88_parse.specs.Inside.Source.{SourceRow, a_statement, a_head, operation_on, operation_at, statement, labelled_on, labelled_at, unlabelled_at, head_at, is_label_on, is_head_on, row_at, end_of_line, row_of_pieces}
 use Rattle.m88_parse.specs.Language.Names.{IsNamed}
 use Rattle.m88_parse.specs.Language.Statements.{IsBody, text, data_section, at, word, half, byte, ascii, zeros, align, global, set, code, IsLabel, BeginsWithNoColon, IsStatement, unlabelled, labelled, label_alone, IsHead, head}
 use Rattle.m88_parse.specs.Language.Units.{Said, says_nothing, says, begins, LineSays, empty_line, statement_line, module_line}
@@ -18,13 +18,13 @@ use Rattle.m88_parse.proofs.Law.Operations.{operation_read, body_again}
 use Rattle.m88_parse.proofs.Law.Readings.{Reading, followed, Followed, Start, begun, lawful, end_as, end_start, slot_law, slot_start}
 
 -- the row that says it
-abbrev pub row_for : ℕ → Said → Option Row
+abbrev pub row_for : ℕ → Said → Option SourceRow
 row_for number says_nothing = None
 row_for number (says s) = Some (a_statement s)
 row_for number (begins name) = Some (a_head name number)
 
 -- what a line with a token says
-pub record Stated (number : ℕ) (ps : List Piece) (r : Row) : Type 0 where
+pub record Stated (number : ℕ) (ps : List Piece) (r : SourceRow) : Type 0 where
   pub said : Said
   pub line_says : LineSays number ps said
   pub row_is : row_for number said ≡ Some r
@@ -37,18 +37,18 @@ label_marks (a_number n) o h = absurd cc
 label_marks (a_text bytes) o h = absurd cc
 label_marks (a_mark b) o h = absurd cc
 
-labelled_rest : (line e : ℕ) (p c : Piece) (ps : List Piece) (name : List ℕ) (r : Row) → IsLabel p c name → labelled_on (st line e ps) (name, p.col) (first (st line e ps)) ≡ Ok r → Stated line (p ∷ c ∷ ps) r
+labelled_rest : (line e : ℕ) (p c : Piece) (ps : List Piece) (name : List ℕ) (r : SourceRow) → IsLabel p c name → labelled_on (st line e ps) (name, p.col) (first (st line e ps)) ≡ Ok r → Stated line (p ∷ c ∷ ps) r
 labelled_rest line e p c [] name r k h =
-    record { said = _; line_says = statement_line (label_alone k); row_is = ap (λ (x : Row). let y : Option Row = Some x in y) (ok_same h) }
+    record { said = _; line_says = statement_line (label_alone k); row_is = ap (λ (x : SourceRow). let y : Option SourceRow = Some x in y) (ok_same h) }
 labelled_rest line e p c (q ∷ qs) name r k h =
     let b = bind_ok (operation_at (st line e (q ∷ qs))) (λ (x : Body). Ok (statement (st line e (q ∷ qs)) (Some (name, p.col)) q.col x)) r h in
-    record { said = _; line_says = statement_line (labelled k (operation_read line e q qs b.0 b.1)); row_is = ap (λ (x : Row). let y : Option Row = Some x in y) (ok_same b.2) }
+    record { said = _; line_says = statement_line (labelled k (operation_read line e q qs b.0 b.1)); row_is = ap (λ (x : SourceRow). let y : Option SourceRow = Some x in y) (ok_same b.2) }
 
 -- behind the label
-abbrev label_then : List ℕ × ℕ → Reading Row
+abbrev label_then : List ℕ × ℕ → Reading SourceRow
 label_then label s = labelled_on (past s) label (first (past s))
 
-label_read : (line e : ℕ) (p : Piece) (ps : List Piece) (r : Row) → is_mark_of 58 (says_first ps) ≡ true → labelled_at (st line e (p ∷ ps)) ≡ Ok r → Stated line (p ∷ ps) r
+label_read : (line e : ℕ) (p : Piece) (ps : List Piece) (r : SourceRow) → is_mark_of 58 (says_first ps) ≡ true → labelled_at (st line e (p ∷ ps)) ≡ Ok r → Stated line (p ∷ ps) r
 unfolding labelled_at
 label_read line e p [] r m h = absurd cc
 label_read line e p (c ∷ ps) r m h =
@@ -70,7 +70,7 @@ head_named (a_text bytes) h = absurd cc
 head_named (a_mark b) h = absurd cc
 
 -- what stands behind the head's first token, walked once
-abbrev pub head_then : ℕ → Reading Row
+abbrev pub head_then : ℕ → Reading SourceRow
 head_then line = followed any_name_at (λ name. end_as (a_head name line))
 
 pub head_start : (few line e : ℕ) → Start few false symbols line e (head_then line) (Followed IsAnyName (λ name ps r. (ps ≡ []) × (a_head name line ≡ r)))
@@ -78,7 +78,7 @@ head_start few line e =
     slot_start (one_any_name line e) (λ name. end_as (a_head name line)) (λ name ps r. (ps ≡ []) × (a_head name line ≡ r))
     (λ name. begun (end_start few line e (a_head name line)))
 
-pub head_law : (line e : ℕ) (p : Piece) (ps : List Piece) (r : Row)
+pub head_law : (line e : ℕ) (p : Piece) (ps : List Piece) (r : SourceRow)
     → (head_at (st line e (p ∷ ps)) ≡ Ok r) ↔ ((q : Piece) × (name : List ℕ) × (ps ≡ q ∷ []) × IsAnyName name q × (a_head name line ≡ r))
 unfolding head_at
 head_law line e p ps r = (
@@ -89,10 +89,10 @@ head_law line e p ps r = (
     law : (head_then line (st line e ps) ≡ Ok r) ↔ Followed IsAnyName (λ name qs x. (qs ≡ []) × (a_head name line ≡ x)) ps r
     law = lawful (λ few. begun (head_start few line e)) ps r
 
-head_read : (line e : ℕ) (p : Piece) (ps : List Piece) (r : Row) → IsNamed (codes ".module") p → head_at (st line e (p ∷ ps)) ≡ Ok r → Stated line (p ∷ ps) r
+head_read : (line e : ℕ) (p : Piece) (ps : List Piece) (r : SourceRow) → IsNamed (codes ".module") p → head_at (st line e (p ∷ ps)) ≡ Ok r → Stated line (p ∷ ps) r
 head_read line e p ps r n h =
     let w = (head_law line e p ps r).0 h in
-    subst (λ (qs : List Piece). Stated line (p ∷ qs) r) (sym w.2) (record { said = begins w.1; line_says = module_line (head n w.3.0 w.3.1); row_is = ap (λ (x : Row). let y : Option Row = Some x in y) w.4 })
+    subst (λ (qs : List Piece). Stated line (p ∷ qs) r) (sym w.2) (record { said = begins w.1; line_says = module_line (head n w.3.0 w.3.1); row_is = ap (λ (x : SourceRow). let y : Option SourceRow = Some x in y) w.4 })
 
 -- a statement with no label
 
@@ -115,16 +115,16 @@ body_named ps c (global {p = p} {q = q} n h) = (p, q ∷ [], codes ".global", re
 body_named ps c (set {p = p} {q = q} {c = k} {ps = qs} n h t w) = (p, q ∷ k ∷ qs, codes ".set", refl, n)
 body_named ps c (code {p = p} {ps = qs} n h) = (p, qs, _, refl, n)
 
-plain_read : (line e : ℕ) (p : Piece) (ps : List Piece) (r : Row) → is_label_on (Some p.says) (says_first ps) ≡ false → unlabelled_at (st line e (p ∷ ps)) ≡ Ok r → Stated line (p ∷ ps) r
+plain_read : (line e : ℕ) (p : Piece) (ps : List Piece) (r : SourceRow) → is_label_on (Some p.says) (says_first ps) ≡ false → unlabelled_at (st line e (p ∷ ps)) ≡ Ok r → Stated line (p ∷ ps) r
 plain_read line e p ps r l h =
     let b = bind_ok (operation_at (st line e (p ∷ ps))) (λ (x : Body). Ok (statement (st line e (p ∷ ps)) None p.col x)) r h in
     let k = operation_read line e p ps b.0 b.1 in
     let n = body_named (p ∷ ps) b.0 k in
     let same : p ≡ n.0 = cc (n.3) in
     let named : p.says ≡ a_name n.2 = ap (λ (q : Piece). q.says) same ∙ n.4 in
-    record { said = _; line_says = statement_line (unlabelled k (no_colon p.says ps n.2 named l)); row_is = ap (λ (x : Row). let y : Option Row = Some x in y) (ok_same b.2) }
+    record { said = _; line_says = statement_line (unlabelled k (no_colon p.says ps n.2 named l)); row_is = ap (λ (x : SourceRow). let y : Option SourceRow = Some x in y) (ok_same b.2) }
 
-pub row_read : (line e : ℕ) (p : Piece) (ps : List Piece) (r : Row) → row_at (st line e (p ∷ ps)) ≡ Ok r → Stated line (p ∷ ps) r
+pub row_read : (line e : ℕ) (p : Piece) (ps : List Piece) (r : SourceRow) → row_at (st line e (p ∷ ps)) ≡ Ok r → Stated line (p ∷ ps) r
 unfolding row_at
 row_read line e p ps r h =
     elim (chosen (is_label_on (Some p.says) (says_first ps)) _ _ _ h) [
@@ -138,7 +138,7 @@ row_read line e p ps r h =
 
 -- what is related is read
 
-label_again : (line e : ℕ) (p c : Piece) (ps : List Piece) (name : List ℕ) (r : Row) → IsLabel p c name
+label_again : (line e : ℕ) (p c : Piece) (ps : List Piece) (name : List ℕ) (r : SourceRow) → IsLabel p c name
     → labelled_on (st line e ps) (name, p.col) (first (st line e ps)) ≡ Ok r → row_at (st line e (p ∷ c ∷ ps)) ≡ Ok r
 unfolding row_at labelled_at
 label_again line e p c ps name r k h =
@@ -198,14 +198,14 @@ statement_again line e ps s (label_alone {l = l} {c = c} {name = name} k) = labe
 
 -- a line's tokens
 
-pub line_read : (number : ℕ) (ps : List Piece) (o : Option Row) → row_of_pieces number ps ≡ Ok o → (said : Said) × LineSays number ps said × (row_for number said ≡ o)
+pub line_read : (number : ℕ) (ps : List Piece) (o : Option SourceRow) → row_of_pieces number ps ≡ Ok o → (said : Said) × LineSays number ps said × (row_for number said ≡ o)
 line_read number [] o h = (says_nothing, empty_line, ok_same h)
 line_read number (p ∷ ps) o h =
-    let b = bind_ok (row_at (st number (end_of_line (p ∷ ps)) (p ∷ ps))) (λ (r : Row). let y : Result (Option Row) ParseFault = Ok (Some r) in y) o h in
+    let b = bind_ok (row_at (st number (end_of_line (p ∷ ps)) (p ∷ ps))) (λ (r : SourceRow). let y : Result (Option SourceRow) ParseFault = Ok (Some r) in y) o h in
     let k = row_read number (end_of_line (p ∷ ps)) p ps b.0 b.1 in
     (k.said, k.line_says, k.row_is ∙ ok_same b.2)
 
-abbrev some_row : Row → Result (Option Row) ParseFault
+abbrev some_row : SourceRow → Result (Option SourceRow) ParseFault
 some_row r = Ok (Some r)
 
 statement_some : (number : ℕ) (ps : List Piece) (s : Statement) → IsStatement number ps s → row_of_pieces number ps ≡ Ok (Some (a_statement s))

@@ -4,7 +4,7 @@ use Rattle.std.specs.List.{list_all}
 use Rattle.std.proofs.Math.Seq.{take-append_seam, drop-append_seam, drop-length}
 use Rattle.m88_parse.specs.declared.fault.ParseFault.{ParseFault}
 use Rattle.m88_parse.specs.declared.scan.Flaw.{Flaw}
-use Rattle.m88_parse.specs.Inside.Tokens.{Cut, front, prepend, fault_at, pieces, pieces_of}
+use Rattle.m88_parse.specs.Inside.Tokens.{Cut, front, prepend, fault_at, pieces_from, pieces_of}
 use Rattle.m88_parse.specs.Language.Bytes.{is_blank, is_comment}
 use Rattle.m88_parse.specs.Language.Pieces.{TokenValue, a_name, a_number, a_text, a_mark, Piece}
 use Rattle.m88_base.specs.Name.{IsName}
@@ -15,24 +15,24 @@ use Rattle.m88_parse.proofs.Law.FirstToken.{front_again, front_blank, front_comm
 
 -- what is related is read
 
-pub gap_passed : (line col : ℕ) (bs rest : List ℕ) → IsGap bs → pieces line 0 col (bs ++ rest) ≡ pieces line 0 (col + length bs) rest
-gap_passed line col [] rest h = let e : col ≡ col + 0 = omega arith in ap (λ (n : ℕ). pieces line 0 n rest) e
+pub gap_passed : (line col : ℕ) (bs rest : List ℕ) → IsGap bs → pieces_from line 0 col (bs ++ rest) ≡ pieces_from line 0 (col + length bs) rest
+gap_passed line col [] rest h = let e : col ≡ col + 0 = omega arith in ap (λ (n : ℕ). pieces_from line 0 n rest) e
 gap_passed line col (b ∷ bs) rest h =
     let k = both (is_blank b) (list_all is_blank bs) h in
     let e : col + 1 + length bs ≡ col + suc (length bs) = omega arith in
     cut_off line col (b ∷ (bs ++ rest)) (record { len = 1; says = None }) (omega arith) (front_blank b (bs ++ rest) k.0) (omega arith)
     ∙ gap_passed line (col + 1) bs rest k.1
-    ∙ ap (λ (n : ℕ). pieces line 0 n rest) e
+    ∙ ap (λ (n : ℕ). pieces_from line 0 n rest) e
 
-pub nothing_left : (line col : ℕ) → pieces line 0 col [] ≡ Ok []
-unfolding pieces
+pub nothing_left : (line col : ℕ) → pieces_from line 0 col [] ≡ Ok []
+unfolding pieces_from
 nothing_left line col = refl
 
-tail_passed : (line col : ℕ) (bs : List ℕ) → IsTail bs → pieces line 0 col bs ≡ Ok []
+tail_passed : (line col : ℕ) (bs : List ℕ) → IsTail bs → pieces_from line 0 col bs ≡ Ok []
 tail_passed line col [] h = nothing_left line col
 tail_passed line col (b ∷ bs) h =
     cut_off line col (b ∷ bs) (record { len = suc (length bs); says = None }) (omega arith) (front_comment b bs h) (omega arith)
-    ∙ ap (pieces line 0 (col + suc (length bs))) (drop-length (b ∷ bs))
+    ∙ ap (pieces_from line 0 (col + suc (length bs))) (drop-length (b ∷ bs))
     ∙ nothing_left line (col + suc (length bs))
 
 no_numeral : (n : ℕ) → IsNumeral [] n → ⊥
@@ -48,21 +48,21 @@ some_bytes [] (a_mark m) h = let e = h.0 in absurd cc
 some_bytes (b ∷ bs) m h = omega arith
 
 pub token_passed : (line col : ℕ) (text rest : List ℕ) (m : TokenValue) → IsToken text m → (AreNameBytes text → BeginsWithNoNameByte rest)
-    → pieces line 0 col (text ++ rest) ≡ prepend (Some m) col text (pieces line 0 (col + length text) rest)
+    → pieces_from line 0 col (text ++ rest) ≡ prepend (Some m) col text (pieces_from line 0 (col + length text) rest)
 token_passed line col text rest m h k =
     let s = some_bytes text m h in
     cut_off line col (text ++ rest) (record { len = length text; says = Some m }) (omega (arith, s, length-append text rest)) (front_again text rest m h k) s
-    ∙ ap₂ (λ (t r : List ℕ). prepend (Some m) col t (pieces line 0 (col + length text) r)) (take-append_seam text rest) (drop-append_seam text rest)
+    ∙ ap₂ (λ (t r : List ℕ). prepend (Some m) col t (pieces_from line 0 (col + length text) r)) (take-append_seam text rest) (drop-append_seam text rest)
 
-pub tokens_read : (line col : ℕ) (bytes : List ℕ) (ps : List Piece) → AreTokens col bytes ps → pieces line 0 col bytes ≡ Ok ps
+pub tokens_read : (line col : ℕ) (bytes : List ℕ) (ps : List Piece) → AreTokens col bytes ps → pieces_from line 0 col bytes ≡ Ok ps
 tokens_read line col bytes [] h =
-    ap (pieces line 0 col) h.bytes_are ∙ gap_passed line col h.gap h.tail h.blank ∙ tail_passed line (col + length h.gap) h.tail h.comment
+    ap (pieces_from line 0 col) h.bytes_are ∙ gap_passed line col h.gap h.tail h.blank ∙ tail_passed line (col + length h.gap) h.tail h.comment
 tokens_read line col bytes (p ∷ ps) h =
     let b = h.1 in
     let ih = tokens_read line (p.col + length p.text) h.0 ps h.2 in
-    ap (pieces line 0 col) b.bytes_are
+    ap (pieces_from line 0 col) b.bytes_are
     ∙ gap_passed line col b.gap (p.text ++ h.0) b.blank
-    ∙ ap (λ (n : ℕ). pieces line 0 n (p.text ++ h.0)) (sym b.place)
+    ∙ ap (λ (n : ℕ). pieces_from line 0 n (p.text ++ h.0)) (sym b.place)
     ∙ token_passed line p.col p.text h.0 p.says b.token b.longest
     ∙ ap (prepend (Some p.says) p.col p.text) ih
 
@@ -100,15 +100,15 @@ blank_before col b bs (p ∷ ps) w h = (h.0, blank_begins col b bs p h.0 w h.1, 
 
 -- one step of a line that isn't empty
 abbrev Related : ℕ → ℕ → Type 0
-Related fuel line = (col : ℕ) (bytes : List ℕ) (ps : List Piece) → length bytes ≤ fuel → pieces line 0 col bytes ≡ Ok ps → AreTokens col bytes ps
+Related fuel line = (col : ℕ) (bytes : List ℕ) (ps : List Piece) → length bytes ≤ fuel → pieces_from line 0 col bytes ≡ Ok ps → AreTokens col bytes ps
 
 comment_alone : (col b : ℕ) (bs : List ℕ) (ps : List Piece) → is_comment b ≡ true → [] ≡ ps → AreTokens col (b ∷ bs) ps
 comment_alone col b bs ps h e = subst (AreTokens col (b ∷ bs)) e (record { gap = []; tail = b ∷ bs; bytes_are = refl; blank = refl; comment = h })
 
 token_first : (fuel line col : ℕ) (bytes : List ℕ) (c : Cut) (ps : List Piece) → Related fuel line → length bytes ≤ suc fuel → TokenAt bytes c
-    → prepend c.says col (take c.len bytes) (pieces line 0 (col + c.len) (drop c.len bytes)) ≡ Ok ps → AreTokens col bytes ps
+    → prepend c.says col (take c.len bytes) (pieces_from line 0 (col + c.len) (drop c.len bytes)) ≡ Ok ps → AreTokens col bytes ps
 token_first fuel line col bytes c ps ih s t h =
-    let rest = pieces line 0 (col + c.len) (drop c.len bytes) in
+    let rest = pieces_from line 0 (col + c.len) (drop c.len bytes) in
     let q = prepended t.meaning col (take c.len bytes) rest ps (ap (λ (o : Option TokenValue). prepend o col (take c.len bytes) rest) (sym t.says) ∙ h) in
     let some = t.some in
     let fits = t.fits in
@@ -125,9 +125,9 @@ pub same_pieces : {a b : List Piece} → ◌≡◌ {A = Result (List Piece) Pars
 same_pieces h = cc
 
 by_front : (fuel line col : ℕ) (bytes : List ℕ) (c : Cut) (ps : List Piece) → Related fuel line → length bytes ≤ suc fuel → Stands bytes c
-    → prepend c.says col (take c.len bytes) (pieces line 0 (col + c.len) (drop c.len bytes)) ≡ Ok ps → AreTokens col bytes ps
+    → prepend c.says col (take c.len bytes) (pieces_from line 0 (col + c.len) (drop c.len bytes)) ≡ Ok ps → AreTokens col bytes ps
 by_front fuel line col bytes c ps ih s (comment_stands {b = b} {bs = bs} k) h =
-    comment_alone col b bs ps k (same_pieces (sym (ap (pieces line 0 (col + suc (length bs))) (drop-length (b ∷ bs)) ∙ nothing_left line (col + suc (length bs))) ∙ h))
+    comment_alone col b bs ps k (same_pieces (sym (ap (pieces_from line 0 (col + suc (length bs))) (drop-length (b ∷ bs)) ∙ nothing_left line (col + suc (length bs))) ∙ h))
 by_front fuel line col bytes c ps ih s (blank_stands {b = b} {bs = bs} k) h = blank_before col b bs ps k (ih (col + 1) bs ps (omega arith) h)
 by_front fuel line col bytes c ps ih s (token_stands t) h = token_first fuel line col bytes c ps ih s t h
 

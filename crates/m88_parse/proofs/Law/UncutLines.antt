@@ -5,7 +5,7 @@ use Rattle.std.proofs.Math.Seq.{drop-length}
 use Rattle.m88_parse.specs.declared.fault.ParseFault.{ParseFault}
 use Rattle.m88_parse.specs.declared.fault.ParseKind.{ParseKind}
 use Rattle.m88_parse.specs.declared.scan.Flaw.{Flaw}
-use Rattle.m88_parse.specs.Inside.Tokens.{Cut, front, prepend, fault_at, pieces, pieces_of}
+use Rattle.m88_parse.specs.Inside.Tokens.{Cut, front, prepend, fault_at, pieces_from, pieces_of}
 use Rattle.m88_parse.specs.Language.Bytes.{is_blank}
 use Rattle.m88_parse.specs.Language.Pieces.{TokenValue, Piece}
 use Rattle.m88_parse.specs.Language.FirstFaults.{IsFlaw, Breaks}
@@ -19,17 +19,17 @@ broken line at kind = Err (record { line = line; col = at; kind = kind })
 
 -- what is related is read
 
-pub breaks_read : (line col : ℕ) (bytes : List ℕ) (ps : List Piece) (at : ℕ) (kind : ParseKind) → Breaks col bytes ps at kind → pieces line 0 col bytes ≡ broken line at kind
+pub breaks_read : (line col : ℕ) (bytes : List ℕ) (ps : List Piece) (at : ℕ) (kind : ParseKind) → Breaks col bytes ps at kind → pieces_from line 0 col bytes ≡ broken line at kind
 breaks_read line col bytes [] at kind h =
-    ap (pieces line 0 col) h.bytes_are
+    ap (pieces_from line 0 col) h.bytes_are
     ∙ gap_passed line col h.gap h.rest h.blank
     ∙ fault_front line (col + length h.gap) h.rest (record { at = h.far; kind = kind }) (flaw_some h.rest h.far kind h.flaw) (flaw_again h.rest h.far kind h.flaw)
     ∙ ap (λ (n : ℕ). broken line n kind) (sym h.place)
 breaks_read line col bytes (p ∷ ps) at kind h =
     let b = h.1 in
-    ap (pieces line 0 col) b.bytes_are
+    ap (pieces_from line 0 col) b.bytes_are
     ∙ gap_passed line col b.gap (p.text ++ h.0) b.blank
-    ∙ ap (λ (n : ℕ). pieces line 0 n (p.text ++ h.0)) (sym b.place)
+    ∙ ap (λ (n : ℕ). pieces_from line 0 n (p.text ++ h.0)) (sym b.place)
     ∙ token_passed line p.col p.text h.0 p.says b.token b.longest
     ∙ ap (prepend (Some p.says) p.col p.text) (breaks_read line (p.col + length p.text) h.0 ps at kind h.2)
 
@@ -58,16 +58,16 @@ blank_then col b bs [] at kind w h = record {
 blank_then col b bs (p ∷ ps) at kind w h = (h.0, blank_begins col b bs p h.0 w h.1, h.2)
 
 abbrev Broke : ℕ → ℕ → Type 0
-Broke fuel line = (col : ℕ) (bytes : List ℕ) (f : ParseFault) → length bytes ≤ fuel → pieces line 0 col bytes ≡ Err f → Broken line col bytes f
+Broke fuel line = (col : ℕ) (bytes : List ℕ) (f : ParseFault) → length bytes ≤ fuel → pieces_from line 0 col bytes ≡ Err f → Broken line col bytes f
 
 token_then : (fuel line col : ℕ) (bytes : List ℕ) (c : Cut) (f : ParseFault) → Broke fuel line → length bytes ≤ suc fuel → TokenAt bytes c
-    → prepend c.says col (take c.len bytes) (pieces line 0 (col + c.len) (drop c.len bytes)) ≡ Err f → Broken line col bytes f
+    → prepend c.says col (take c.len bytes) (pieces_from line 0 (col + c.len) (drop c.len bytes)) ≡ Err f → Broken line col bytes f
 token_then fuel line col bytes c f ih s t h =
     let some = t.some in
     let fits = t.fits in
     let shorter : length (drop c.len bytes) ≤ fuel = omega (arith, length-drop c.len bytes) in
     let l : length (take c.len bytes) ≡ c.len = omega (arith, length-take c.len bytes) in
-    let after = ih (col + c.len) (drop c.len bytes) f shorter (prepended_fault c.says col (take c.len bytes) (pieces line 0 (col + c.len) (drop c.len bytes)) f h) in
+    let after = ih (col + c.len) (drop c.len bytes) f shorter (prepended_fault c.says col (take c.len bytes) (pieces_from line 0 (col + c.len) (drop c.len bytes)) f h) in
     record {
       tokens = record { text = take c.len bytes; col = col; says = t.meaning } ∷ after.tokens;
       breaks = (
@@ -79,9 +79,9 @@ token_then fuel line col bytes c f ih s t h =
     }
 
 by_front : (fuel line col : ℕ) (bytes : List ℕ) (c : Cut) (f : ParseFault) → Broke fuel line → length bytes ≤ suc fuel → Stands bytes c
-    → prepend c.says col (take c.len bytes) (pieces line 0 (col + c.len) (drop c.len bytes)) ≡ Err f → Broken line col bytes f
+    → prepend c.says col (take c.len bytes) (pieces_from line 0 (col + c.len) (drop c.len bytes)) ≡ Err f → Broken line col bytes f
 by_front fuel line col bytes c f ih s (comment_stands {b = b} {bs = bs} k) h =
-    let e : ◌≡◌ {A = Result (List Piece) ParseFault} (Ok []) (Err f) = sym (ap (pieces line 0 (col + suc (length bs))) (drop-length (b ∷ bs)) ∙ nothing_left line (col + suc (length bs))) ∙ h in
+    let e : ◌≡◌ {A = Result (List Piece) ParseFault} (Ok []) (Err f) = sym (ap (pieces_from line 0 (col + suc (length bs))) (drop-length (b ∷ bs)) ∙ nothing_left line (col + suc (length bs))) ∙ h in
     absurd cc
 by_front fuel line col bytes c f ih s (blank_stands {b = b} {bs = bs} k) h =
     let after = ih (col + 1) bs f (omega arith) h in

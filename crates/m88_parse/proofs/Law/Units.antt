@@ -9,7 +9,7 @@ use Rattle.m88_parse.specs.Language.Pieces.{Piece}
 use Rattle.m88_parse.specs.Fault.{Gives}
 use Rattle.m88_parse.specs.Inside.State.{◌>>=◌}
 use Rattle.m88_base.specs.Lines.{lines_of}
-use Rattle.m88_parse.specs.Inside.Source.{Row, a_statement, a_head, row_of_pieces, row_of_line, with_row, rows_of, grouped, main_with, modules_in, unit_of_rows, unit_of}
+use Rattle.m88_parse.specs.Inside.Source.{SourceRow, a_statement, a_head, row_of_pieces, row_of_line, with_row, rows_of, grouped, main_with, modules_in, unit_of_rows, unit_of}
 use Rattle.m88_parse.specs.Language.Tokens.{LineTokens}
 use Rattle.m88_parse.specs.Language.Units.{Said, says_nothing, says, begins, LineSays, AreRows, no_row, row_of_nothing, row_of_statement, row_of_module, AreModules, only_main, first_main, no_main, IsUnit}
 use Rattle.m88_parse.proofs.Law.SingleTokens.{ok_same, bind_ok, bind_to}
@@ -18,14 +18,14 @@ use Rattle.m88_parse.proofs.Law.Statements.{row_for, line_read, line_again}
 
 -- one line
 
-pub record LineRow (number : ℕ) (line : List ℕ) (o : Option Row) : Type 0 where
+pub record LineRow (number : ℕ) (line : List ℕ) (o : Option SourceRow) : Type 0 where
   pub pieces : List Piece
   pub said : Said
   pub tokens : LineTokens line pieces
   pub line_says : LineSays number pieces said
   pub row_is : row_for number said ≡ o
 
-pub line_row : (number : ℕ) (line : List ℕ) (o : Option Row) → row_of_line number line ≡ Ok o → LineRow number line o
+pub line_row : (number : ℕ) (line : List ℕ) (o : Option SourceRow) → row_of_line number line ≡ Ok o → LineRow number line o
 unfolding row_of_line
 line_row number line o h =
     let b = bind_ok (pieces_of number line) (λ (ps : List Piece). row_of_pieces number ps) o h in
@@ -38,36 +38,36 @@ row_again number line ps said t h = bind_to (pieces_of number line) (λ (qs : Li
 
 -- the lines in order
 
-abbrev Grouped : ℕ → List (List ℕ) → List Row → Type 0
+abbrev Grouped : ℕ → List (List ℕ) → List SourceRow → Type 0
 Grouped number lines rows = AreRows number lines (grouped rows).0 (grouped rows).1
 
-add_row : (number : ℕ) (line : List ℕ) (lines : List (List ℕ)) (ps : List Piece) (said : Said) (o : Option Row) (rows : List Row) → LineTokens line ps → LineSays number ps said → row_for number said ≡ o → Grouped (number + 1) lines rows → Grouped number (line ∷ lines) (with_row o rows)
+add_row : (number : ℕ) (line : List ℕ) (lines : List (List ℕ)) (ps : List Piece) (said : Said) (o : Option SourceRow) (rows : List SourceRow) → LineTokens line ps → LineSays number ps said → row_for number said ≡ o → Grouped (number + 1) lines rows → Grouped number (line ∷ lines) (with_row o rows)
 unfolding grouped
-add_row number line lines ps says_nothing o rows t h e g = subst (λ (r : Option Row). Grouped number (line ∷ lines) (with_row r rows)) e (row_of_nothing t h g)
-add_row number line lines ps (says s) o rows t h e g = subst (λ (r : Option Row). Grouped number (line ∷ lines) (with_row r rows)) e (row_of_statement t h g)
-add_row number line lines ps (begins name) o rows t h e g = subst (λ (r : Option Row). Grouped number (line ∷ lines) (with_row r rows)) e (row_of_module t h g)
+add_row number line lines ps says_nothing o rows t h e g = subst (λ (r : Option SourceRow). Grouped number (line ∷ lines) (with_row r rows)) e (row_of_nothing t h g)
+add_row number line lines ps (says s) o rows t h e g = subst (λ (r : Option SourceRow). Grouped number (line ∷ lines) (with_row r rows)) e (row_of_statement t h g)
+add_row number line lines ps (begins name) o rows t h e g = subst (λ (r : Option SourceRow). Grouped number (line ∷ lines) (with_row r rows)) e (row_of_module t h g)
 
-rows_related : (number : ℕ) (lines : List (List ℕ)) (rows : List Row) → rows_of number lines ≡ Ok rows → Grouped number lines rows
+rows_related : (number : ℕ) (lines : List (List ℕ)) (rows : List SourceRow) → rows_of number lines ≡ Ok rows → Grouped number lines rows
 unfolding rows_of grouped
 rows_related number [] rows h = subst (Grouped number []) (ok_same h) no_row
 rows_related number (line ∷ lines) rows h =
-    let b = bind_ok (row_of_line number line) (λ (r : Option Row). rows_of (number + 1) lines >>= λ (rs : List Row). Ok (with_row r rs)) rows h in
-    let c = bind_ok (rows_of (number + 1) lines) (λ (rs : List Row). Ok (with_row b.0 rs)) rows b.2 in
+    let b = bind_ok (row_of_line number line) (λ (r : Option SourceRow). rows_of (number + 1) lines >>= λ (rs : List SourceRow). Ok (with_row r rs)) rows h in
+    let c = bind_ok (rows_of (number + 1) lines) (λ (rs : List SourceRow). Ok (with_row b.0 rs)) rows b.2 in
     let k = line_row number line b.0 b.1 in
     subst (Grouped number (line ∷ lines)) (ok_same c.2) (add_row number line lines k.pieces k.said b.0 c.0 k.tokens k.line_says k.row_is (rows_related (number + 1) lines c.0 c.1))
 
 -- rows that are read, with the statements and modules that they are
 pub record RowsRead (number : ℕ) (lines : List (List ℕ)) (ss : List Statement) (ms : List Module) : Type 0 where
-  pub rows : List Row
+  pub rows : List SourceRow
   pub read : rows_of number lines ≡ Ok rows
   pub statements : (grouped rows).0 ≡ ss
   pub modules : (grouped rows).1 ≡ ms
 
-one_more : (number : ℕ) (line : List ℕ) (lines : List (List ℕ)) (o : Option Row) (rows : List Row) → row_of_line number line ≡ Ok o → rows_of (number + 1) lines ≡ Ok rows → rows_of number (line ∷ lines) ≡ Ok (with_row o rows)
+one_more : (number : ℕ) (line : List ℕ) (lines : List (List ℕ)) (o : Option SourceRow) (rows : List SourceRow) → row_of_line number line ≡ Ok o → rows_of (number + 1) lines ≡ Ok rows → rows_of number (line ∷ lines) ≡ Ok (with_row o rows)
 unfolding rows_of
 one_more number line lines o rows h k =
-    bind_to (row_of_line number line) (λ (r : Option Row). rows_of (number + 1) lines >>= λ (rs : List Row). Ok (with_row r rs)) o (Ok (with_row o rows)) h
-    (bind_to (rows_of (number + 1) lines) (λ (rs : List Row). Ok (with_row o rs)) rows (Ok (with_row o rows)) k refl)
+    bind_to (row_of_line number line) (λ (r : Option SourceRow). rows_of (number + 1) lines >>= λ (rs : List SourceRow). Ok (with_row r rs)) o (Ok (with_row o rows)) h
+    (bind_to (rows_of (number + 1) lines) (λ (rs : List SourceRow). Ok (with_row o rs)) rows (Ok (with_row o rows)) k refl)
 
 rows_again : {number : ℕ} {lines : List (List ℕ)} {ss : List Statement} {ms : List Module} → AreRows number lines ss ms → RowsRead number lines ss ms
 unfolding rows_of grouped
@@ -117,7 +117,7 @@ same_unit a b h = ap (λ (ms : List Module). let u : Source = record { modules =
 pub read_is_related : (source : List ℕ) (unit : Source) → unit_of source ≡ Ok unit → IsUnit source unit
 unfolding unit_of
 read_is_related source unit h =
-    let b = bind_ok (rows_of 1 (lines_of source)) (λ (rows : List Row). let y : Result Source ParseFault = Ok (unit_of_rows rows) in y) unit h in
+    let b = bind_ok (rows_of 1 (lines_of source)) (λ (rows : List SourceRow). let y : Result Source ParseFault = Ok (unit_of_rows rows) in y) unit h in
     let g = grouped b.0 in
     subst (IsUnit source) (ok_same b.2)
     (record { statements = g.0; modules = g.1; are_rows = rows_related 1 (lines_of source) b.0 b.1; are_modules = modules_related g.0 g.1 })
@@ -128,7 +128,7 @@ related_is_read source unit h =
     let k = rows_again h.are_rows in
     let r : rows_of 1 (lines_of source) ≡ Ok k.rows = k.read in
     let m : modules_in (grouped k.rows).0 (grouped k.rows).1 ≡ unit.modules = ap₂ modules_in k.statements k.modules ∙ modules_computed h.are_modules in
-    bind_to (rows_of 1 (lines_of source)) (λ (rows : List Row). let y : Result Source ParseFault = Ok (unit_of_rows rows) in y) k.rows (Ok unit) r
+    bind_to (rows_of 1 (lines_of source)) (λ (rows : List SourceRow). let y : Result Source ParseFault = Ok (unit_of_rows rows) in y) k.rows (Ok unit) r
     (ap (λ (u : Source). let y : Result Source ParseFault = Ok u in y) (same_unit (modules_in (grouped k.rows).0 (grouped k.rows).1) unit.modules m))
 
 pub single_unit : (source : List ℕ) (a b : Source) → IsUnit source a → IsUnit source b → a ≡ b

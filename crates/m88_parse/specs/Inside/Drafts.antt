@@ -6,7 +6,7 @@ use Rattle.m88_parse.specs.declared.fault.ParseFault.{ParseFault}
 use Rattle.m88_parse.specs.declared.unit.Statement.{Statement}
 use Rattle.m88_parse.specs.declared.unit.Module.{Module}
 use Rattle.m88_parse.specs.declared.unit.Unit.{Unit as Source}
-use Rattle.m88_parse.specs.Inside.Source.{Row, grouped, main_with, modules_in, rows_of, with_row}
+use Rattle.m88_parse.specs.Inside.Source.{SourceRow, grouped, main_with, modules_in, rows_of, with_row}
 
 -- the modules that are closed, and the one that is open, if one has begun
 pub record Drafted : Type 0 where
@@ -22,12 +22,12 @@ abbrev pub with_more : Module → List Statement → Module
 with_more m xs = record { name = m.name; line = m.line; statements = m.statements ++ xs }
 
 -- the modules of a source whose rest is these rows, by what is closed and what is open before them
-abbrev pub modules_with : List Module → Option Module → List Row → List Module
+abbrev pub modules_with : List Module → Option Module → List SourceRow → List Module
 modules_with closed None rows = closed ++ modules_in (grouped rows).0 (grouped rows).1
 modules_with closed (Some m) rows = closed ++ with_more m (grouped rows).0 ∷ (grouped rows).1
 
 -- the same by a draft
-abbrev pub modules_after : Drafted → List Row → List Module
+abbrev pub modules_after : Drafted → List SourceRow → List Module
 modules_after d rows = modules_with d.closed d.current rows
 
 -- what is open where a statement comes
@@ -35,16 +35,16 @@ abbrev pub begun : Option Module → Module
 begun current = unwrap_or current (main_with [])
 
 -- the unit of a source whose rest was read so
-abbrev pub leads : Drafted → Result (List Row) ParseFault → Result Source ParseFault
+abbrev pub leads : Drafted → Result (List SourceRow) ParseFault → Result Source ParseFault
 leads d (Ok rows) = Ok (record { modules = modules_after d rows })
 leads d (Err e) = Err e
 
 -- rows stand behind others
-abbrev pub Follows : Drafted → Drafted → Option Row → Type 0
-Follows after before r = (rows : List Row) → modules_after after rows ≡ modules_after before (with_row r rows)
+abbrev pub Follows : Drafted → Drafted → Option SourceRow → Type 0
+Follows after before r = (rows : List SourceRow) → modules_after after rows ≡ modules_after before (with_row r rows)
 
 -- a row that was read stands behind others
-abbrev pub GoesOn : Drafted → Drafted → Result Row ParseFault → Type 0
+abbrev pub GoesOn : Drafted → Drafted → Result SourceRow ParseFault → Type 0
 GoesOn after before (Ok r) = Follows after before (Some r)
 GoesOn after before (Err e) = ⊥
 

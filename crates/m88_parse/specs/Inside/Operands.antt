@@ -150,9 +150,9 @@ words_at limit s =
     else Ok (pos 0, s))
 
 -- words that fit a sign and the bits below the limit
-abbrev pub AreWords : ℕ → ℤ → Type 0
-AreWords limit (pos n) = n < limit
-AreWords limit (negsuc n) = n < limit
+abbrev pub AreWordsWithin : ℕ → ℤ → Type 0
+AreWordsWithin limit (pos n) = n < limit
+AreWordsWithin limit (negsuc n) = n < limit
 
 -- whether what a token says is the place of the statement
 abbrev pub is_here_on : Option TokenValue → Bool

@@ -23,9 +23,9 @@ use Rattle.m88_parse.specs.Inside.Directives.{directive_of}
 use Rattle.m88_parse.specs.Inside.Grammar.{Form, read, form_of, directive_form}
 
 -- what a line says: a statement, or the name of a module that begins and the number of its line
-pub data Row : Type 0 where
-  a_statement : Statement → Row
-  a_head : List ℕ → ℕ → Row
+pub data SourceRow : Type 0 where
+  a_statement : Statement → SourceRow
+  a_head : List ℕ → ℕ → SourceRow
 
 -- the form of a mnemonic
 abbrev pub instruction_form : Mnemonic → Form
@@ -56,24 +56,24 @@ unfoldable pub operation_at : ReaderState → Result Body ParseFault
 operation_at s = operation_on s (first s)
 
 -- a line that is a statement
-abbrev pub statement : ReaderState → Option (List ℕ × ℕ) → ℕ → Body → Row
+abbrev pub statement : ReaderState → Option (List ℕ × ℕ) → ℕ → Body → SourceRow
 statement s label col b = a_statement (record { line = s.line; label = label; col = col; body = b })
 
 -- a label alone, or the operation behind it
-abbrev pub labelled_on : ReaderState → (List ℕ × ℕ) → Option TokenValue → Result Row ParseFault
+abbrev pub labelled_on : ReaderState → (List ℕ × ℕ) → Option TokenValue → Result SourceRow ParseFault
 labelled_on s label None = Ok (statement s (Some label) label.1 Empty)
 labelled_on s label (Some _) = operation_at s >>= λ b. Ok (statement s (Some label) (place s) b)
 
 -- a label, the colon behind it, and the operation if there is one
-unfoldable pub labelled_at : ReaderState → Result Row ParseFault
+unfoldable pub labelled_at : ReaderState → Result SourceRow ParseFault
 labelled_at s = symbol_at s >>= λ label. labelled_on (past label.1) label.0 (first (past label.1))
 
 -- an operation with no label
-abbrev pub unlabelled_at : ReaderState → Result Row ParseFault
+abbrev pub unlabelled_at : ReaderState → Result SourceRow ParseFault
 unlabelled_at s = operation_at s >>= λ b. Ok (statement s None (place s) b)
 
 -- a module's head: any name
-unfoldable pub head_at : ReaderState → Result Row ParseFault
+unfoldable pub head_at : ReaderState → Result SourceRow ParseFault
 head_at s = do
   name ← any_name_at (past s)
   end ← line_end_at name.1
@@ -90,7 +90,7 @@ is_head_on (Some (a_name name)) = is_module name
 is_head_on _ = false
 
 -- what a line with a token says
-unfoldable pub row_at : ReaderState → Result Row ParseFault
+unfoldable pub row_at : ReaderState → Result SourceRow ParseFault
 row_at s =
     if is_label_on (first s) (second s) then labelled_at s
     else (if is_head_on (first s) then head_at s else unlabelled_at s)
@@ -102,22 +102,22 @@ end_of_line (p ∷ []) = p.col + length p.text
 end_of_line (p ∷ q ∷ ps) = end_of_line (q ∷ ps)
 
 -- what the tokens of a line say, if there is one
-abbrev pub row_of_pieces : ℕ → List Piece → Result (Option Row) ParseFault
+abbrev pub row_of_pieces : ℕ → List Piece → Result (Option SourceRow) ParseFault
 row_of_pieces line [] = Ok None
 row_of_pieces line (p ∷ ps) =
     row_at (record { line = line; end_col = end_of_line (p ∷ ps); rest = p ∷ ps }) >>= λ r. Ok (Some r)
 
 -- what a line says, if it has a token: it is cut into tokens whole before its statement is read
-unfoldable pub row_of_line : ℕ → List ℕ → Result (Option Row) ParseFault
+unfoldable pub row_of_line : ℕ → List ℕ → Result (Option SourceRow) ParseFault
 row_of_line line bytes = pieces_of line bytes >>= λ ps. row_of_pieces line ps
 
 -- a row more in front, if there is one
-abbrev pub with_row : Option Row → List Row → List Row
+abbrev pub with_row : Option SourceRow → List SourceRow → List SourceRow
 with_row None rows = rows
 with_row (Some r) rows = r ∷ rows
 
 -- what the lines say, the first of them with this number; the first fault counts
-unfoldable pub rows_of : ℕ → List (List ℕ) → Result (List Row) ParseFault
+unfoldable pub rows_of : ℕ → List (List ℕ) → Result (List SourceRow) ParseFault
 rows_of number [] = Ok []
 rows_of number (line ∷ lines) = do
   r ← row_of_line number line
@@ -125,7 +125,7 @@ rows_of number (line ∷ lines) = do
   Ok (with_row r rows)
 
 -- the statements up to the first head, and the modules from there on
-unfoldable pub grouped : List Row → List Statement × List Module
+unfoldable pub grouped : List SourceRow → List Statement × List Module
 grouped [] = ([], [])
 grouped (a_statement x ∷ rows) = (x ∷ (grouped rows).0, (grouped rows).1)
 grouped (a_head name line ∷ rows) =
@@ -141,7 +141,7 @@ modules_in [] (m ∷ ms) = m ∷ ms
 modules_in statements modules = main_with statements ∷ modules
 
 -- the unit of the rows of a source
-abbrev pub unit_of_rows : List Row → Source
+abbrev pub unit_of_rows : List SourceRow → Source
 unit_of_rows rows = record { modules = modules_in (grouped rows).0 (grouped rows).1 }
 
 -- the unit of a source, or its first fault

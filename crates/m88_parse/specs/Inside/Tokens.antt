@@ -18,9 +18,9 @@ use Rattle.m88_parse.specs.Language.Bytes.{backslash, double_quote, single_quote
 use Rattle.m88_parse.specs.Language.Pieces.{TokenValue, a_name, a_number, a_text, a_mark, Piece, PlainToken, token_of}
 
 -- 0x and hexadecimal digits
-abbrev pub is_hexadecimal : List ℕ → Bool
-is_hexadecimal (a ∷ b ∷ d ∷ ds) = a == 48 && b == 120 && are_digits 16 (d ∷ ds)
-is_hexadecimal _ = false
+abbrev pub is_hexadecimal_number : List ℕ → Bool
+is_hexadecimal_number (a ∷ b ∷ d ∷ ds) = a == 48 && b == 120 && are_digits 16 (d ∷ ds)
+is_hexadecimal_number _ = false
 
 -- decimal digits without a needless 0 in front
 abbrev pub is_decimal : List ℕ → Bool
@@ -34,7 +34,7 @@ bounded n = if nat_lt n (2 ^ 32) then Ok n else Err OutOfRange
 -- the number of a run that begins with a digit
 abbrev pub numeral : List ℕ → Result ℕ ParseKind
 numeral run =
-    if is_hexadecimal run then bounded (digits_value 16 (drop 2 run))
+    if is_hexadecimal_number run then bounded (digits_value 16 (drop 2 run))
     else (if is_decimal run then bounded (digits_value 10 run) else Err Syntax)
 
 -- a backslash takes the next byte with it
@@ -136,7 +136,7 @@ front (b ∷ bs) =
 -- a token more in front, if there is one
 abbrev pub prepend : Option TokenValue → ℕ → List ℕ → Result (List Piece) ParseFault → Result (List Piece) ParseFault
 prepend None col text rest = rest
-prepend (Some meaning) col text (Ok pieces) = Ok (record { text = text; col = col; says = meaning } ∷ pieces)
+prepend (Some meaning) col text (Ok pieces_from) = Ok (record { text = text; col = col; says = meaning } ∷ pieces_from)
 prepend (Some meaning) col text (Err fault) = Err fault
 
 -- a flaw as a fault of its line
@@ -144,17 +144,17 @@ abbrev pub fault_at : ℕ → ℕ → Flaw → ParseFault
 fault_at line col flaw = record { line = line; col = col + flaw.at; kind = flaw.kind }
 
 -- the tokens from a column on, cut from the left; skip counts the bytes of a front that was cut off already
-unfoldable pub pieces : ℕ → ℕ → ℕ → List ℕ → Result (List Piece) ParseFault
-pieces line skip col [] = Ok []
-pieces line (suc skip) col (b ∷ bs) = pieces line skip (col + 1) bs
-pieces line zero col (b ∷ bs) = elim (front (b ∷ bs)) [
-  | Ok c ↦ prepend c.says col (take c.len (b ∷ bs)) (pieces line (c.len - 1) (col + 1) bs)
+unfoldable pub pieces_from : ℕ → ℕ → ℕ → List ℕ → Result (List Piece) ParseFault
+pieces_from line skip col [] = Ok []
+pieces_from line (suc skip) col (b ∷ bs) = pieces_from line skip (col + 1) bs
+pieces_from line zero col (b ∷ bs) = elim (front (b ∷ bs)) [
+  | Ok c ↦ prepend c.says col (take c.len (b ∷ bs)) (pieces_from line (c.len - 1) (col + 1) bs)
   | Err f ↦ Err (fault_at line col f)
 ]
 
 -- the tokens of a whole line
 abbrev pub pieces_of : ℕ → List ℕ → Result (List Piece) ParseFault
-pieces_of line bytes = pieces line 0 1 bytes
+pieces_of line bytes = pieces_from line 0 1 bytes
 
 -- what a token of the code says
 abbrev pub token_value : What → TokenValue

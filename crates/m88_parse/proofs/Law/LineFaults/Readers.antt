@@ -4,7 +4,7 @@ use Rattle.m88_parse.specs.declared.fault.ParseKind.{ParseKind}
 use Rattle.m88_parse.specs.declared.fault.ParseFault.{ParseFault}
 use Rattle.m88_parse.specs.Language.Pieces.{Piece}
 use Rattle.m88_parse.specs.Inside.State.{ReaderState, first}
-use Rattle.m88_parse.specs.Inside.Source.{Row, unlabelled_at, head_at, is_head_on}
+use Rattle.m88_parse.specs.Inside.Source.{SourceRow, unlabelled_at, head_at, is_head_on}
 use Rattle.m88_parse.specs.Language.Names.{IsMark, IsNumber, IsNamed, IsSymbol}
 use Rattle.m88_parse.specs.Language.LineFaults.{IsOperation, MayFollow, NumberMayFollow, NameMayFollow, EverySymbolMayFollow, EndsInSign, IsBroken}
 use Rattle.m88_parse.proofs.Law.SingleTokens.{st, Naming, no_name, own_names, symbols}
@@ -29,7 +29,7 @@ pub some_same : {a b : ParseFault} → ◌≡◌ {A = Option ParseFault} (Some a
 some_same h = cc
 
 -- the reader of operations, and without a label of heads of modules too
-abbrev pub row_or_head : ReaderState → Result Row ParseFault
+abbrev pub row_or_head : ReaderState → Result SourceRow ParseFault
 row_or_head s = if is_head_on (first s) then head_at s else unlabelled_at s
 
 abbrev pub heard : ℕ → ℕ → Reader

@@ -15,7 +15,7 @@ use Rattle.m88_parse.specs.Inside.Slots.{symbol_on, symbol_at}
 use Rattle.m88_parse.specs.Inside.Shapes.{shape_of}
 use Rattle.m88_parse.specs.Inside.Directives.{directive_text, all_directives, directive_of}
 use Rattle.m88_parse.specs.Inside.Grammar.{Form, read, form_of, directive_form}
-use Rattle.m88_parse.specs.Inside.Source.{Row, form_in, form_named, by_form, operation_on, operation_at, statement, labelled_on, labelled_at, head_at, is_label_on, is_head_on, row_at, end_of_line, row_of_pieces}
+use Rattle.m88_parse.specs.Inside.Source.{SourceRow, form_in, form_named, by_form, operation_on, operation_at, statement, labelled_on, labelled_at, head_at, is_label_on, is_head_on, row_at, end_of_line, row_of_pieces}
 use Rattle.m88_parse.specs.Language.Names.{IsMark, IsNamed, IsSymbol}
 use Rattle.m88_parse.specs.Language.Statements.{IsBody, text as text_body, IsLabel, IsStatement, unlabelled, labelled as labelled_body, label_alone, IsHead, head}
 use Rattle.m88_parse.specs.Language.Units.{Said, LineSays, empty_line, statement_line, module_line}
@@ -33,13 +33,13 @@ use Rattle.m88_parse.proofs.Law.LineFaults.WholeOperations.{heard_law}
 
 -- the first token of an operation
 
-stated_fault : (r : Result Body ParseFault) (g : Body → Row) → fault_in (r >>= λ (b : Body). let y : Result Row ParseFault = Ok (g b) in y) ≡ fault_in r
+stated_fault : (r : Result Body ParseFault) (g : Body → SourceRow) → fault_in (r >>= λ (b : Body). let y : Result SourceRow ParseFault = Ok (g b) in y) ≡ fault_in r
 stated_fault (Ok b) g = refl
 stated_fault (Err f) g = refl
 
 heard_body : (line e : ℕ) (p : Piece) (ps : List Piece) → is_head_on (Some p.says) ≡ false → heard line e (p ∷ ps) ≡ fault_in (operation_at (st line e (p ∷ ps)))
 heard_body line e p ps n =
-    ap (λ (r : Result Row ParseFault). fault_in r) (take_else (is_head_on (Some p.says)) _ _ n)
+    ap (λ (r : Result SourceRow ParseFault). fault_in r) (take_else (is_head_on (Some p.says)) _ _ n)
     ∙ stated_fault (operation_at (st line e (p ∷ ps))) (λ b. statement (st line e (p ∷ ps)) None (place (st line e (p ∷ ps))) b)
 
 heard_plain : (line e : ℕ) (p : Piece) (ps : List Piece) (m : TokenValue) → p.says ≡ m → is_head_on (Some m) ≡ false → heard line e (p ∷ ps) ≡ fault_in (operation_on (st line e (p ∷ ps)) (Some m))
@@ -220,7 +220,7 @@ label_told line p c qs text f h m i = by_symbol (is_symbol text) refl
         behind_told line p c qs text f (record { symbol = (h, symbol_is text t); colon = m })
         (sym (ap (λ (r : Result ((List ℕ × ℕ) × ReaderState) ParseFault). r >>= λ (label : (List ℕ × ℕ) × ReaderState). labelled_on (past label.1) label.0 (first (past label.1))) (step ∙ take_then (is_symbol text) _ _ t)) ∙ i)
     by_symbol false t =
-        let x : ◌≡◌ {A = Result Row ParseFault} (Err (record { line = line; col = p.col; kind = Syntax })) (Err f) =
+        let x : ◌≡◌ {A = Result SourceRow ParseFault} (Err (record { line = line; col = p.col; kind = Syntax })) (Err f) =
         sym (ap (λ (r : Result ((List ℕ × ℕ) × ReaderState) ParseFault). r >>= λ (label : (List ℕ × ℕ) × ReaderState). labelled_on (past label.1) label.0 (first (past label.1))) (step ∙ take_else (is_symbol text) _ _ t)) ∙ i in
         line_fault_is line (p ∷ c ∷ qs) p.col Syntax f (no_label m (not_symbol p text h t)) (err_is x)
 
@@ -238,7 +238,7 @@ plain_told : (line : ℕ) (p : Piece) (ps : List Piece) (f : ParseFault) → is_
 plain_told line p ps f t h = by_says p.says refl
   where
     is_told : Told line (p ∷ ps) f
-    is_told = operation_told line (end_of_line (p ∷ ps)) p ps f (end_of_is p ps) (ap (λ (r : Result Row ParseFault). fault_in r) h)
+    is_told = operation_told line (end_of_line (p ∷ ps)) p ps f (end_of_is p ps) (ap (λ (r : Result SourceRow ParseFault). fault_in r) h)
 
     no_name_colon : (c : Piece) (qs : List Piece) (m : TokenValue) → p.says ≡ m → NoName m → (name : List ℕ) → IsSymbol name p → ⊥
     no_name_colon c qs m i number_is name s = let x = sym i ∙ s.0 in cc
@@ -256,15 +256,15 @@ plain_told line p ps f t h = by_says p.says refl
 
     by_says : (m : TokenValue) → p.says ≡ m → LineFaultBy line (p ∷ ps) f
     by_says (a_name name) i = let b = is_told in (without_label (no_colon p.says ps name i t) b.0, b.1)
-    by_says (a_number v) i = by_colon ps (a_number v) i number_is (ap (λ (r : Result Row ParseFault). fault_in r) h) is_told
-    by_says (a_text bytes) i = by_colon ps (a_text bytes) i text_is (ap (λ (r : Result Row ParseFault). fault_in r) h) is_told
-    by_says (a_mark b) i = by_colon ps (a_mark b) i mark_is (ap (λ (r : Result Row ParseFault). fault_in r) h) is_told
+    by_says (a_number v) i = by_colon ps (a_number v) i number_is (ap (λ (r : Result SourceRow ParseFault). fault_in r) h) is_told
+    by_says (a_text bytes) i = by_colon ps (a_text bytes) i text_is (ap (λ (r : Result SourceRow ParseFault). fault_in r) h) is_told
+    by_says (a_mark b) i = by_colon ps (a_mark b) i mark_is (ap (λ (r : Result SourceRow ParseFault). fault_in r) h) is_told
 
 pub line_fault_told : (number : ℕ) (ps : List Piece) (f : ParseFault) → row_of_pieces number ps ≡ Err f → LineFaultBy number ps f
 unfolding row_at
 line_fault_told number [] f h = absurd cc
 line_fault_told number (p ∷ ps) f h =
-    let r = then_ok (row_at (st number (end_of_line (p ∷ ps)) (p ∷ ps))) (λ x. let y : Option Row = Some x in y) f h in
+    let r = then_ok (row_at (st number (end_of_line (p ∷ ps)) (p ∷ ps))) (λ x. let y : Option SourceRow = Some x in y) f h in
     elim (chosen (is_label_on (Some p.says) (says_first ps)) _ _ _ r) [
       | inl j ↦ colon_told number p ps f j.0 j.1
       | inr j ↦ plain_told number p ps f j.0 j.1

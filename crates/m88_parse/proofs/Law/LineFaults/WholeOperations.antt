@@ -8,14 +8,14 @@ use Rattle.m88_parse.specs.Language.Names.{IsNamed}
 use Rattle.m88_parse.specs.Language.Statements.{IsHead, head}
 use Rattle.m88_parse.specs.Language.LineFaults.{IsOperation, operation, head_of_module}
 use Rattle.m88_parse.specs.Inside.State.{first, place}
-use Rattle.m88_parse.specs.Inside.Source.{Row, a_head, operation_at, head_at, is_head_on, statement}
+use Rattle.m88_parse.specs.Inside.Source.{SourceRow, a_head, operation_at, head_at, is_head_on, statement}
 use Rattle.m88_parse.proofs.Law.TestsAndChoices.{chosen, take_then, take_else}
 use Rattle.m88_parse.proofs.Law.SingleTokens.{st, bind_ok, bind_to}
 use Rattle.m88_parse.proofs.Law.Operations.{operation_read, body_again}
 use Rattle.m88_parse.proofs.Law.Statements.{head_named, head_law, not_head}
 use Rattle.m88_parse.proofs.Law.LineFaults.Readers.{fault_in, same_fault, row_or_head, heard, HeardLaw}
 
-head_is : (line e : ℕ) (p : Piece) (ps : List Piece) (r : Row) → IsNamed (codes ".module") p → head_at (st line e (p ∷ ps)) ≡ Ok r → IsOperation (p ∷ ps)
+head_is : (line e : ℕ) (p : Piece) (ps : List Piece) (r : SourceRow) → IsNamed (codes ".module") p → head_at (st line e (p ∷ ps)) ≡ Ok r → IsOperation (p ∷ ps)
 head_is line e p ps r n h =
     let w = (head_law line e p ps r).0 h in subst (λ (qs : List Piece). IsOperation (p ∷ qs)) (sym w.2) (head_of_module (head n w.3.0 w.3.1))
 
@@ -24,7 +24,7 @@ unfolding operation_at
 operation_is line e [] c h = absurd cc
 operation_is line e (p ∷ ps) c h = operation (operation_read line e p ps c h)
 
-row_is : (line e : ℕ) (ps : List Piece) (r : Row) → row_or_head (st line e ps) ≡ Ok r → IsOperation ps
+row_is : (line e : ℕ) (ps : List Piece) (r : SourceRow) → row_or_head (st line e ps) ≡ Ok r → IsOperation ps
 unfolding operation_at
 row_is line e [] r h = absurd cc
 row_is line e (p ∷ ps) r h =
