@@ -6,7 +6,7 @@ use Rattle.m88_srec.specs.Accepted.{whole_of}
 use Rattle.m88_srec.specs.Begun.{Begun, HoldsFault, LeadsTo, StaysRefused}
 use Rattle.m88_srec.specs.Fed.{IsFed, IsLedTo, LoaderView, begun_in}
 use Rattle.m88_srec.specs.GivesVerdict.{GivesVerdict, no_memory}
-use Rattle.m88_srec.specs.Inside.Taking.{finished}
+use Rattle.m88_srec.specs.Inside.Taking.{at_text_end}
 use Rattle.m88_srec.specs.Verdict.{verdict}
 use Rattle.m88_srec.specs.declared.fault.SrecFault.{SrecFault}
 use Rattle.m88_srec.proofs.Feeding.{finished_is, is_held}
@@ -44,5 +44,5 @@ refused_at_end text fault (inr stays) = inr (is_held text fault stays).0
 
 -- the image of a text that ended
 pub ended_there : (text : List ℕ) (b : Begun) (result : Result ProgramImage SrecFault) → LeadsTo text b
-    → GivesVerdict whole_of result (finished b) → GivesVerdict whole_of result (verdict text)
+    → GivesVerdict whole_of result (at_text_end b) → GivesVerdict whole_of result (verdict text)
 ended_there text b result t h = subst (GivesVerdict whole_of result) (finished_is text b t) h

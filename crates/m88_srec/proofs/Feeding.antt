@@ -9,7 +9,7 @@ use Rattle.m88_base.specs.Lines.{lines_of}
 use Rattle.m88_base.proofs.Laws.{ends_last, ends_source, is_inner}
 use Rattle.m88_srec.specs.Begun.{Begun, HoldsFault, LeadsTo, StaysRefused, held_cr, line_ends}
 use Rattle.m88_srec.specs.Front.{LineFront, front_of}
-use Rattle.m88_srec.specs.Inside.Taking.{byte_taken, ended_at, finished, holding, judged_front, last_line_on, with_byte, with_held}
+use Rattle.m88_srec.specs.Inside.Taking.{byte_taken, ended_at, at_text_end, holding, judged_front, last_line_on, with_byte, with_held}
 use Rattle.m88_srec.specs.Verdict.{Load, ended_on, go_on, judged, opening_load, verdict, verdict_from}
 use Rattle.m88_srec.specs.declared.fault.SrecFault.{SrecFault}
 use Rattle.m88_srec.specs.declared.fault.SrecKind.{SrecKind}
@@ -228,8 +228,8 @@ ended_with number load (b ∷ bs) h =
     ∙ sym (ap (verdict_from number load) (last_alone (b ∷ bs) h some))
     )
 
-pub finished_is : (text : List ℕ) (b : Begun) → LeadsTo text b → finished b ≡ verdict text
-unfolding finished
+pub finished_is : (text : List ℕ) (b : Begun) → LeadsTo text b → at_text_end b ≡ verdict text
+unfolding at_text_end
 finished_is text b t =
     ap last_line_on (
     ap (λ (f : LineFront). with_held (record { number = b.number; load = b.load; front = f; cr = b.cr })) t.front

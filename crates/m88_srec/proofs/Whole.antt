@@ -9,7 +9,7 @@ use Rattle.m88_srec.specs.Begun.{Begun, LeadsTo, StaysRefused, held_cr, line_end
 use Rattle.m88_srec.specs.Front.{LineFront, front_of, most_kept}
 use Rattle.m88_srec.specs.GivesVerdict.{no_memory}
 use Rattle.m88_srec.specs.Inside.Loads.{GivesLoad, fault_of_line}
-use Rattle.m88_srec.specs.Inside.Taking.{EndsAlone, LeadsPast, IsWholeLine, Stops, byte_taken, gone_on}
+use Rattle.m88_srec.specs.Inside.Taking.{EndsAlone, LeadsPast, IsWholeLine, HoldsFirstFault, byte_taken, gone_on}
 use Rattle.m88_srec.specs.Verdict.{Load, go_on, judged, verdict, verdict_from}
 use Rattle.m88_srec.specs.declared.fault.SrecFault.{SrecFault}
 use Rattle.m88_srec.specs.declared.fault.SrecKind.{SrecKind}
@@ -119,7 +119,7 @@ line_taken rest line left behind b later w empty no_cr e same = subst (λ (xs : 
 })
 
 pub line_stops : (rest line left : List ℕ) (b : Begun) (kind : SrecKind) → IsWholeLine rest line left → b.front.len ≡ 0
-    → b.cr ≡ false → (kind ≡ Memory) ⊎ (gone_on b (judged b.load line) ≡ Err kind) → Stops rest b kind
+    → b.cr ≡ false → (kind ≡ Memory) ⊎ (gone_on b (judged b.load line) ≡ Err kind) → HoldsFirstFault rest b kind
 line_stops rest line left b kind w empty no_cr (inl memory) = inl memory
 line_stops rest line left b kind w empty no_cr (inr e) =
     inr (λ text t. whole_stops rest line left text b w t empty no_cr kind e)
@@ -133,7 +133,7 @@ taken_line now rest line left b later (Err kind) w empty no_cr said same = tt
 
 pub refused_line : {T : Type 0} (rest line left : List ℕ) (b later : Begun) (r : Result T SrecKind)
     → IsWholeLine rest line left → b.front.len ≡ 0 → b.cr ≡ false → GivesLoad later r (gone_on b (judged b.load line))
-    → IfErr r (Stops rest b)
+    → IfErr r (HoldsFirstFault rest b)
 refused_line rest line left b later (Ok x) w empty no_cr said = tt
 refused_line rest line left b later (Err kind) w empty no_cr said = line_stops rest line left b kind w empty no_cr said
 
@@ -146,7 +146,7 @@ byte_taken_first rest left byte b later is e = record {
 }
 
 pub byte_stops_first : (rest left : List ℕ) (byte : ℕ) (b : Begun) (kind : SrecKind) → rest ≡ byte ∷ left
-    → (kind ≡ Memory) ⊎ (byte_taken b byte ≡ Err kind) → Stops rest b kind
+    → (kind ≡ Memory) ⊎ (byte_taken b byte ≡ Err kind) → HoldsFirstFault rest b kind
 byte_stops_first rest left byte b kind is (inl memory) = inl memory
 byte_stops_first rest left byte b kind is (inr e) =
     inr (λ text t.
@@ -178,7 +178,7 @@ all_taken piece [] first now taken none text t =
 all_taken piece (b ∷ bs) first now taken none text t = absurd (omega (arith, none))
 
 pub stopped_there : (piece rest : List ℕ) (first now : Begun) (kind : SrecKind) (fault : SrecFault) → LeadsPast piece rest first now
-    → Stops rest now kind → fault ≡ fault_of_line now.number kind
+    → HoldsFirstFault rest now kind → fault ≡ fault_of_line now.number kind
     → (fault ≡ no_memory) ⊎ ((text : List ℕ) → LeadsTo text first → StaysRefused (text ++ piece) fault)
 stopped_there piece rest first now kind fault taken (inl memory) is = inl (is ∙ ap (fault_of_line now.number) memory)
 stopped_there piece rest first now kind fault taken (inr stops) is = elim (not_memory now.number kind) [

@@ -23,7 +23,7 @@ pub struct Loader {
 
 impl Model for Loader {
     ghost use Rattle.m88_srec.specs.Fed.{LoaderView};
-    ghost use Rattle.m88_srec.specs.Inside.Taking.{IsWithin, front_seen};
+    ghost use Rattle.m88_srec.specs.Inside.Taking.{IsCountedWithin, front_seen};
 
     ghost Value = { LoaderView };
 
@@ -38,7 +38,7 @@ impl Model for Loader {
       fault = x.fault;
     } };
 
-    ghost invariant = { λ x. IsWithin x.total x.text x.fault };
+    ghost invariant = { λ x. IsCountedWithin x.total x.text x.fault };
 }
 
 impl Loader {

@@ -4,7 +4,7 @@ ghost use Rattle.m88_srec.specs.Accepted.{whole_of};
 ghost use Rattle.m88_srec.specs.GivesVerdict.{GivesVerdict};
 ghost use Rattle.m88_srec.specs.Inside.Loads.{fault_of_line, load_seen};
 ghost use Rattle.m88_srec.specs.Inside.Steps.{Becomes, BeginsLine, CanStep, HasRoomFor, IsOpened, JudgesFront, Steps, TakesByte, TakesHeld, TakesPiece};
-ghost use Rattle.m88_srec.specs.Inside.Taking.{EndsAlone, IsWholeLine, begun_seen, byte_taken, ended_at, finished, front_seen, gone_on, judged_front, reach};
+ghost use Rattle.m88_srec.specs.Inside.Taking.{EndsAlone, IsWholeLine, begun_seen, byte_taken, ended_at, at_text_end, front_seen, gone_on, judged_front, reach};
 ghost use Rattle.m88_srec.specs.Verdict.{judged};
 
 use crate::digits::MOST_RECORD_BYTES;
@@ -196,10 +196,10 @@ impl TextSoFar {
     }
 
     /// The image behind the last line, or its fault.
-    #[tactic(auto, unfolding(crate::specs::Inside::Taking::finished))]
+    #[tactic(auto, unfolding(crate::specs::Inside::Taking::at_text_end))]
     pub fn finish(self) -> Result<Image, SrecFault>
         requires { HasRoomFor self 0 }
-        ensures { GivesVerdict whole_of result (finished (begun_seen self)) }
+        ensures { GivesVerdict whole_of result (at_text_end (begun_seen self)) }
     {
         let mut text = self;
         text.push_held();

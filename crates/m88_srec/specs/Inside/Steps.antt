@@ -5,7 +5,7 @@ use Rattle.m88_srec.specs.Begun.{Begun, LeadsTo, StaysRefused}
 use Rattle.m88_srec.specs.Front.{front_of, most_kept}
 use Rattle.m88_srec.specs.GivesVerdict.{no_memory}
 use Rattle.m88_srec.specs.Inside.Loads.{GivesLoad, load_seen}
-use Rattle.m88_srec.specs.Inside.Taking.{AreCounted, LeadsPast, Stops, begun_seen, front_seen, judged_front, reach, with_byte, with_held}
+use Rattle.m88_srec.specs.Inside.Taking.{AreCounted, LeadsPast, HoldsFirstFault, begun_seen, front_seen, judged_front, reach, with_byte, with_held}
 use Rattle.m88_srec.specs.Verdict.{opening_load}
 use Rattle.m88_srec.specs.declared.fault.SrecFault.{SrecFault}
 use Rattle.m88_srec.specs.declared.fault.SrecKind.{SrecKind}
@@ -63,7 +63,7 @@ pub record CanStep (x : TextSoFar) (rest : List ℕ) : Type 0 where
 -- some of what is left of a piece was taken, and where a text led it leads on; or there it stops
 pub record Steps (rest : List ℕ) (before after : TextSoFar) (result : Result (Bor (List ℕ)) SrecKind) : Type 0 where
   pub taken : IfOk result (λ left. LeadsPast rest left.now (begun_seen before) (begun_seen after))
-  pub stopped : IfErr result (Stops rest (begun_seen before))
+  pub stopped : IfErr result (HoldsFirstFault rest (begun_seen before))
   pub shorter : IfOk result (λ left. length left.now < length rest)
   pub within : IfOk result (λ left. reach after + length left.now ≤ reach before + length rest)
   pub counted : OnOk result (AreCounted after)

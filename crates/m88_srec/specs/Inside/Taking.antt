@@ -87,8 +87,8 @@ pub record LeadsPast (rest left : List ℕ) (b later : Begun) : Type 0 where
   pub leads : (text : List ℕ) → LeadsTo text b → LeadsTo (text ++ bytes) later
 
 -- memory ran out, or wherever the text led, the bytes that are left hold its first fault
-abbrev pub Stops : List ℕ → Begun → SrecKind → Type 0
-Stops rest b kind = (kind ≡ Memory) ⊎ ((text : List ℕ) → LeadsTo text b
+abbrev pub HoldsFirstFault : List ℕ → Begun → SrecKind → Type 0
+HoldsFirstFault rest b kind = (kind ≡ Memory) ⊎ ((text : List ℕ) → LeadsTo text b
     → StaysRefused (text ++ rest) (record { line = b.number; kind = kind }))
 
 -- a CR is held back
@@ -108,8 +108,8 @@ last_line_on b =
     else go_on b.number (judged_front b.load b.front) (λ load. ended_on (b.number + 1) load.loaded load.start)
 
 -- the text ended
-unfoldable pub finished : Begun → Result Whole SrecFault
-finished b = last_line_on (with_held b)
+unfoldable pub at_text_end : Begun → Result Whole SrecFault
+at_text_end b = last_line_on (with_held b)
 
 -- the number of the line with the bytes of it that were taken: no more than one above those of the text
 abbrev pub reach : TextSoFar → ℕ
@@ -120,6 +120,6 @@ abbrev pub AreCounted : TextSoFar → Type 0
 AreCounted x = x.loading.records + 1 ≤ x.number
 
 -- while a loader has no fault, its numbers stay below those of the bytes that it was fed
-abbrev pub IsWithin : ℕ → TextSoFar → Option SrecFault → Type 0
-IsWithin total x None = (reach x ≤ total + 1) × AreCounted x × (total < 2 ^ 31)
-IsWithin total x (Some fault) = Unit {0}
+abbrev pub IsCountedWithin : ℕ → TextSoFar → Option SrecFault → Type 0
+IsCountedWithin total x None = (reach x ≤ total + 1) × AreCounted x × (total < 2 ^ 31)
+IsCountedWithin total x (Some fault) = Unit {0}
