@@ -2,7 +2,7 @@
 use Rattle.std.proofs.Common.{ℕ, List, refl, sym, subst}
 use Rattle.m88_base.specs.Image.{IsImage, ProgramImage}
 use Rattle.m88_disasm.proofs.Laws.{listing_again}
-use Rattle.m88_disasm.specs.Listing.{IsListing}
+use Rattle.m88_disasm.specs.Listing.{IsImageListing}
 use Rattle.m88_srec.specs.Written.{srec_text}
 use Rattle.m88_cli.specs.Answer.{IsAnswerToAccepted}
 use Rattle.m88_cli.specs.Bridge.{ListedBuildsAlike}
@@ -11,7 +11,7 @@ use Rattle.m88_cli.proofs.Linked.{recorded}
 use Rattle.m88_cli.proofs.Listed.{one_written}
 
 -- a listing of an image is built into the records of the image
-built_again : (listing : List ℕ) (image : ProgramImage) → IsImage image → IsListing image listing
+built_again : (listing : List ℕ) (image : ProgramImage) → IsImage image → IsImageListing image listing
     → IsAnswerToAccepted build listing (srec_text image)
 built_again listing image is listed =
     let w = listing_again image listing is listed in

@@ -2,7 +2,7 @@
 use Rattle.std.proofs.Common.{◌≡◌, List, ℕ, ap, subst}
 use Rattle.m88_base.specs.Image.{IsImage, ProgramImage}
 use Rattle.m88_base.proofs.Laws.{same_images}
-use Rattle.m88_disasm.specs.Listing.{IsListing}
+use Rattle.m88_disasm.specs.Listing.{IsImageListing}
 use Rattle.m88_srec.proofs.Laws.{verdict_takes}
 use Rattle.m88_srec.specs.Accepted.{IsAccepted, Whole, whole_of}
 use Rattle.m88_cli.specs.Answer.{IsAnswerToAccepted}
@@ -18,14 +18,14 @@ one_written records i j a b written other =
     same_images i j a.apart b.apart (ap (λ (w : Whole). w.start) whole) (λ n. ap (λ (w : Whole). w.found n) whole)
 
 -- and that has one listing
-pub listed : (records text : List ℕ) (image : ProgramImage) → IsImage image → IsAccepted records (whole_of image) → IsListing image text
-    → ((other : List ℕ) → IsListing image other → other ≡ text) → IsAnswerToAccepted dis records text
+pub listed : (records text : List ℕ) (image : ProgramImage) → IsImage image → IsAccepted records (whole_of image) → IsImageListing image text
+    → ((other : List ℕ) → IsImageListing image other → other ≡ text) → IsAnswerToAccepted dis records text
 listed records text image is_image written is_listing only = record {
   accepted = (whole_of image, written);
   output = record {
     lists = record { image = image; is_image = is_image; is_written = written; is_listing = is_listing };
     only = λ other lists.
         let same = one_written records lists.image image lists.is_image is_image lists.is_written written in
-        only other (subst (λ i. IsListing i other) same lists.is_listing);
+        only other (subst (λ i. IsImageListing i other) same lists.is_listing);
   };
 }

@@ -2,7 +2,7 @@
 -- is refused.
 use Rattle.std.specs.Prelude.{ℕ, ◌≡◌, List}
 use Rattle.m88_base.specs.Image.{IsImage, ProgramImage}
-use Rattle.m88_disasm.specs.Listing.{IsListing}
+use Rattle.m88_disasm.specs.Listing.{IsImageListing}
 use Rattle.m88_srec.specs.Accepted.{IsAccepted, Whole, whole_of}
 use Rattle.m88_srec.specs.Reasons.{srec_reason}
 use Rattle.m88_srec.specs.Verdict.{IsFirstSrecFault}
@@ -18,7 +18,7 @@ pub record ListsRecords (records text : List ℕ) : Type 0 where
   pub image : ProgramImage
   pub is_image : IsImage image
   pub is_written : IsAccepted records (whole_of image)
-  pub is_listing : IsListing image text
+  pub is_listing : IsImageListing image text
 
 -- and they have no other listing
 pub record IsListingText (records text : List ℕ) : Type 0 where

@@ -23,7 +23,7 @@ use Rattle.m88_asm.specs.Faults.{IsAssembled, module_fault, statements_fault}
 use Rattle.m88_asm.specs.Images.{run_of}
 use Rattle.m88_asm.specs.Objects.{Head, first_heads, heads_in, lines_in, marked, symbol_uses, symbols_in, symbols_of}
 use Rattle.m88_asm.specs.Units.{base_in, extent_under, extents_in, globals_in, length_in, references_in, section_length, unit_layout}
-use Rattle.m88_disasm.specs.Listing.{IsListing, start_line}
+use Rattle.m88_disasm.specs.Listing.{IsImageListing, start_line}
 use Rattle.m88_disasm.specs.Read.{WritesImage, unlabelled}
 use Rattle.m88_disasm.proofs.Accepting.{AreFew, bases_are, defined_symbols, faults_cons, opened_in, opened_sections, parts_define, parts_faults, parts_heads, parts_use}
 use Rattle.m88_disasm.proofs.Bodies.{ArePieces, ListedParts, PartsData, listed_parts, pieces_of}
@@ -238,7 +238,7 @@ few_each (run ∷ runs) few =
     (omega (arith, e), few_each runs (omega (arith, e)))
 
 -- the listing writes the image
-pub listing_again : (image : ProgramImage) (text : List ℕ) → IsImage image → IsListing image text
+pub listing_again : (image : ProgramImage) (text : List ℕ) → IsImage image → IsImageListing image text
     → WritesImage text image
 unfolding byte_at byte_count
 listing_again image text is listed =

@@ -16,7 +16,7 @@ use Rattle.m88_parse.specs.declared.unit.Body.{Body}
 use Rattle.m88_parse.specs.declared.unit.Body.TheVariants as body
 use Rattle.m88_parse.specs.declared.unit.Value.TheVariants.{Number}
 use Rattle.m88_asm.specs.Faults.{alignment_of}
-use Rattle.m88_disasm.specs.Listing.{AreLines, ArePartLines, IsWordLine, byte, lone_byte_line, instruction, no_instruction, no_line, no_part, part, word}
+use Rattle.m88_disasm.specs.Listing.{AreLinesFrom, ArePartLines, IsWordLine, byte, lone_byte_line, instruction, no_instruction, no_line, no_part, part, word}
 use Rattle.m88_disasm.specs.Read.{said_body}
 use Rattle.m88_disasm.specs.Text.{instr_text, word_text}
 use Rattle.m88_disasm.proofs.Rows.{Stated, stated_behind}
@@ -107,7 +107,7 @@ listed_word number at a b c d rest _ lines ha hb hc hd stands (no_instruction no
     (subst (λ (xs : List ℕ). Gives (body.Word (Number w ∷ [])) xs) (four a b c d ha hb hc hd) (a_word w)) stands
     (said_word number w (word_below a b c d ha hb hc hd)) l
 
-listed : (number at : ℕ) (bytes : List ℕ) (lines : List (List ℕ)) → AreBytes bytes → AreLines at bytes lines
+listed : (number at : ℕ) (bytes : List ℕ) (lines : List (List ℕ)) → AreBytes bytes → AreLinesFrom at bytes lines
     → ListedBytes number at bytes lines
 listed number at _ _ small no_line = record { bodies = []; stated = tt; datas = no_data }
 listed number at _ _ small (word {a = a} {b = b} {c = c} {d = d} {bytes = rest} {line = line} {lines = lines} begins

@@ -10,9 +10,9 @@ use Rattle.m88_base.specs.Placed.{Placed}
 use Rattle.m88_isa.specs.Word.{IsWord}
 use Rattle.m88_isa.specs.declared.instr.Instr.{Instr}
 use Rattle.m88_disasm.specs.Text.{instr_text, word_text}
-use Rattle.m88_disasm.specs.Listing.{AreLines, ArePartLines, BeginsWord, IsWordLine, lone_byte_line, place_line}
+use Rattle.m88_disasm.specs.Listing.{AreLinesFrom, ArePartLines, BeginsWord, IsWordLine, lone_byte_line, place_line}
 use Rattle.m88_disasm.specs.Listing.IsWordLine.{instruction, no_instruction}
-use Rattle.m88_disasm.specs.Listing.AreLines.{no_line, word, byte}
+use Rattle.m88_disasm.specs.Listing.AreLinesFrom.{no_line, word, byte}
 use Rattle.m88_disasm.specs.Listing.ArePartLines.{no_part, part}
 use Rattle.m88_disasm.specs.Inside.Appended.{BytesAppended, LineAppended, LinesAppended}
 
@@ -69,21 +69,21 @@ more_bytes at m n bytes rest t0 t1 t2 rest_is first second =
     λ lines are.
     let sum : at + (m + n) ≡ at + m + n = omega arith in
     let left : drop (m + n) bytes ≡ drop n rest = sym (drop-drop n m bytes) ∙ ap (drop n) (sym rest_is) in
-    let are_left : AreLines (at + m + n) (drop n rest) lines =
-    subst (λ (xs : List ℕ). AreLines (at + m + n) xs lines) left
-    (subst (λ (k : ℕ). AreLines k (drop (m + n) bytes) lines) sum are) in
-    let next : LinesAppended (AreLines (at + m) rest) t1 (t2 ++ text_of_lines lines) = second lines are_left in
-    let whole : LinesAppended (AreLines at bytes) t0 (t1 ++ text_of_lines next.lines) =
-    first next.lines (subst (λ (xs : List ℕ). AreLines (at + m) xs next.lines) rest_is next.are) in
-    retold (AreLines at bytes) t0 (t1 ++ text_of_lines next.lines) (t2 ++ text_of_lines lines) next.text_is whole
+    let are_left : AreLinesFrom (at + m + n) (drop n rest) lines =
+    subst (λ (xs : List ℕ). AreLinesFrom (at + m + n) xs lines) left
+    (subst (λ (k : ℕ). AreLinesFrom k (drop (m + n) bytes) lines) sum are) in
+    let next : LinesAppended (AreLinesFrom (at + m) rest) t1 (t2 ++ text_of_lines lines) = second lines are_left in
+    let whole : LinesAppended (AreLinesFrom at bytes) t0 (t1 ++ text_of_lines next.lines) =
+    first next.lines (subst (λ (xs : List ℕ). AreLinesFrom (at + m) xs next.lines) rest_is next.are) in
+    retold (AreLinesFrom at bytes) t0 (t1 ++ text_of_lines next.lines) (t2 ++ text_of_lines lines) next.text_is whole
 
 -- all lines are there
 pub all_bytes : (at n : ℕ) (bytes old new : List ℕ) → length bytes ≤ n → BytesAppended at bytes old new n
-    → LinesAppended (AreLines at bytes) old new
+    → LinesAppended (AreLinesFrom at bytes) old new
 all_bytes at n bytes old new past so_far =
-    let none_left : AreLines (at + n) (drop n bytes) [] =
-    subst (λ (xs : List ℕ). AreLines (at + n) xs []) (sym (drop_all n bytes past)) no_line in
-    retold (AreLines at bytes) old (new ++ []) new (sym (append-nil new)) (so_far [] none_left)
+    let none_left : AreLinesFrom (at + n) (drop n bytes) [] =
+    subst (λ (xs : List ℕ). AreLinesFrom (at + n) xs []) (sym (drop_all n bytes past)) no_line in
+    retold (AreLinesFrom at bytes) old (new ++ []) new (sym (append-nil new)) (so_far [] none_left)
 
 -- the lines of the first n parts
 abbrev pub PartsAppended : List Placed → List ℕ → List ℕ → ℕ → Type 0
@@ -112,7 +112,7 @@ part_text t1 t2 t3 place lines more e f =
 -- one part more
 pub more_parts : (runs : List Placed) (k : ℕ) (run : Placed) (t0 t1 t2 t3 : List ℕ) → slice_get runs k ≡ Some run
     → PartsAppended runs t0 t1 k → t2 ≡ t1 ++ (place_line run.at ++ line_end)
-    → LinesAppended (AreLines run.at run.bytes) t2 t3 → PartsAppended runs t0 t3 (k + 1)
+    → LinesAppended (AreLinesFrom run.at run.bytes) t2 t3 → PartsAppended runs t0 t3 (k + 1)
 more_parts runs k run t0 t1 t2 t3 found before place l =
     λ more are.
     let all : List (List ℕ) = place_line run.at ∷ (l.lines ++ more) in

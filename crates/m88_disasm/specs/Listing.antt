@@ -33,24 +33,24 @@ abbrev pub BeginsWord : ℕ → List ℕ → Type 0
 BeginsWord at bytes = (at % 4 ≡ 0) × (4 ≤ length bytes)
 
 -- the lines of the bytes from an address on: one for the word that begins there, else one for the byte
-pub data AreLines : ℕ → List ℕ → List (List ℕ) → Type 0 where
-  no_line : {at : ℕ} → AreLines at [] []
+pub data AreLinesFrom : ℕ → List ℕ → List (List ℕ) → Type 0 where
+  no_line : {at : ℕ} → AreLinesFrom at [] []
   word : {at a b c d : ℕ} {bytes line : List ℕ} {lines : List (List ℕ)}
       → BeginsWord at (a ∷ b ∷ c ∷ d ∷ bytes) → IsWordLine (from_be_bytes w32 (a ∷ b ∷ c ∷ d ∷ [])) line
-      → AreLines (at + 4) bytes lines → AreLines at (a ∷ b ∷ c ∷ d ∷ bytes) (line ∷ lines)
+      → AreLinesFrom (at + 4) bytes lines → AreLinesFrom at (a ∷ b ∷ c ∷ d ∷ bytes) (line ∷ lines)
   byte : {at b : ℕ} {bytes : List ℕ} {lines : List (List ℕ)}
-      → (BeginsWord at (b ∷ bytes) → ⊥) → AreLines (at + 1) bytes lines
-      → AreLines at (b ∷ bytes) (lone_byte_line b ∷ lines)
+      → (BeginsWord at (b ∷ bytes) → ⊥) → AreLinesFrom (at + 1) bytes lines
+      → AreLinesFrom at (b ∷ bytes) (lone_byte_line b ∷ lines)
 
 -- the lines of the parts in turn
 pub data ArePartLines : List Placed → List (List ℕ) → Type 0 where
   no_part : ArePartLines [] []
   part : {run : Placed} {runs : List Placed} {lines more : List (List ℕ)}
-      → AreLines run.at run.bytes lines → ArePartLines runs more
+      → AreLinesFrom run.at run.bytes lines → ArePartLines runs more
       → ArePartLines (run ∷ runs) (place_line run.at ∷ lines ++ more)
 
 -- the listing of an image
-pub record IsListing (image : ProgramImage) (text : List ℕ) : Type 0 where
+pub record IsImageListing (image : ProgramImage) (text : List ℕ) : Type 0 where
   pub lines : List (List ℕ)
   pub are_lines : ArePartLines (parts image) lines
   pub text_is : text ≡ text_of_lines (start_line image.start ∷ lines)

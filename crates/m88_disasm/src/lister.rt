@@ -4,7 +4,7 @@ ghost use Rattle.m88_base.specs.Image.{IsImage, parts};
 ghost use Rattle.m88_base.specs.Lines.{line_end};
 ghost use Rattle.m88_base.specs.Placed.{count_among};
 ghost use Rattle.m88_disasm.specs.Inside.Appended.{BytesAppended, LineAppended, LinesAppended};
-ghost use Rattle.m88_disasm.specs.Listing.{AreLines, ArePartLines, BeginsWord, IsListing, IsWordLine, lone_byte_line, place_line, start_line};
+ghost use Rattle.m88_disasm.specs.Listing.{AreLinesFrom, ArePartLines, BeginsWord, IsImageListing, IsWordLine, lone_byte_line, place_line, start_line};
 ghost use Rattle.m88_disasm.specs.Read.{WritesImage};
 ghost use Rattle.m88_disasm.specs.Text.{hexadecimal};
 
@@ -113,7 +113,7 @@ fn push_first(text: &mut Vec<u8>, at: u32, bytes: &[u8]) -> Result<usize, AllocE
 fn push_bytes(text: &mut Vec<u8>, at: u32, bytes: &[u8]) -> Result<(), AllocError>
     requires { at + length bytes.now ≤ 2 ^ 32 }
     ensures lines { OnOk result
-        (LinesAppended (AreLines at bytes.now) text.old.items text.new.items) }
+        (LinesAppended (AreLinesFrom at bytes.now) text.old.items text.new.items) }
     ensures room { OnOk result
         (length text.new.items ≤ length text.old.items + MOST_LINE * length bytes.now) }
 {
@@ -143,7 +143,7 @@ fn push_parts(text: &mut Vec<u8>, image: &Image) -> Result<(), AllocError>
 
 /// The listing, or that there is no memory for it.
 fn listed(alloc: Global, image: &Image) -> Result<Vec<u8>, AllocError>
-    ensures text { IfOk result (λ text. IsListing image.now text.items) }
+    ensures text { IfOk result (λ text. IsImageListing image.now text.items) }
     ensures short { IfOk result (λ text. length text.items < 2 ^ 31) }
     ensures image { OnOk result (IsImage image.now) }
 {
@@ -156,14 +156,14 @@ fn listed(alloc: Global, image: &Image) -> Result<Vec<u8>, AllocError>
 /// The listing of an image: a source in the assembly language with the start, and for each part of the image its
 /// address and the texts of its instructions; words of no instruction and bytes of no whole word by themselves.
 pub fn listing(alloc: Global, image: &Image) -> Result<Vec<u8>, NoMemory>
-    ensures value { IfOk result (λ text. IsListing image.now text.items) }
+    ensures value { IfOk result (λ text. IsImageListing image.now text.items) }
 
     // Read, assembled and linked, the listing is the image with its start.
     ensures again { IfOk result (λ text. WritesImage text.items image.now) }
     ensures short { IfOk result (λ text. length text.items < 2 ^ 31) }
 
     // An image has no other listing.
-    ensures only { IfOk result (λ text. (other : List ℕ) → IsListing image.now other
+    ensures only { IfOk result (λ text. (other : List ℕ) → IsImageListing image.now other
         → other ≡ text.items) }
 {
     let text = listed(alloc, image)?;

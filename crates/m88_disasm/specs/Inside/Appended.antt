@@ -1,7 +1,7 @@
 -- What was appended to a text.
 use Rattle.std.specs.Prelude.{◌≡◌, ◌+◌, ℕ, List, ◌++◌, drop}
 use Rattle.m88_base.specs.Lines.{line_end, text_of_lines}
-use Rattle.m88_disasm.specs.Listing.{AreLines}
+use Rattle.m88_disasm.specs.Listing.{AreLinesFrom}
 
 -- a line of this kind
 pub record LineAppended (Is : List ℕ → Type 0) (old new : List ℕ) : Type 0 where
@@ -18,5 +18,5 @@ pub record LinesAppended (Are : List (List ℕ) → Type 0) (old new : List ℕ)
 -- the lines of the first n bytes from an address on: with the lines of the other bytes they are the lines of all
 abbrev pub BytesAppended : ℕ → List ℕ → List ℕ → List ℕ → ℕ → Type 0
 BytesAppended at bytes old new n =
-    (lines : List (List ℕ)) → AreLines (at + n) (drop n bytes) lines
-    → LinesAppended (AreLines at bytes) old (new ++ text_of_lines lines)
+    (lines : List (List ℕ)) → AreLinesFrom (at + n) (drop n bytes) lines
+    → LinesAppended (AreLinesFrom at bytes) old (new ++ text_of_lines lines)
