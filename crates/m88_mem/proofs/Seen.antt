@@ -1,5 +1,5 @@
 -- Frames and bits as they are seen: page by page.
-use Rattle.std.proofs.Common.{◌≡◌, ℕ, zero, suc, ◌<◌, ◌≤◌, ◌+◌, ◌*◌, ◌/◌, ◌%◌, ◌^◌, Bool, ◌==◌, ◌||◌, true, false, bit_or, bit_and, List, Option, Some, None, get_or, is_some, unwrap_or, length, slice_get, slice_index_or, slice_set, if◌then◌else◌, refl, arith, ap, sym, ◌∙◌, inl, inr}
+use Rattle.std.proofs.Common.{◌≡◌, ℕ, zero, suc, ◌<◌, ◌≤◌, ◌+◌, ◌*◌, ◌/◌, ◌%◌, ◌^◌, Bool, ◌==◌, true, false, bit_and, List, Option, Some, None, get_or, is_some, unwrap_or, length, slice_get, slice_index_or, slice_set, if◌then◌else◌, refl, arith, ap, sym, ◌∙◌, inl, inr}
 use Rattle.std.specs.Int.{bit_not, w32}
 use Rattle.std.proofs.lemmas.List.{length-set}
 use Rattle.std.proofs.lemmas.Option.{slice_get-get_or}
@@ -10,10 +10,12 @@ use Rattle.std.proofs.lemmas.Bool.Decides.{nat_tests}
 use Rattle.std.proofs.lemmas.Nat.Bits.{bit_at-zero}
 use Rattle.m88_base.specs.Image.{ProgramImage}
 use Rattle.m88_base.specs.Pages.{page_count, page_number}
-use Rattle.m88_mem.proofs.Words.{bus_by, marked_with, marked_without}
+use Rattle.m88_mem.proofs.Bits.{marked_without}
+use Rattle.m88_mem.proofs.Words.{bus_by}
 use Rattle.m88_mem.specs.DataBus.{MemoryView, bus_of, image_bus, page_words, ready_of, word_in_page}
 use Rattle.m88_mem.specs.Inside.Changes.{GoesOver, HasComeTo}
-use Rattle.m88_mem.specs.Inside.Frames.{by_page, frame_at, frame_in, is_in, is_marked, mark_words, seen_as, table_entries, tabulated, with_frame, word_at, word_in, words_in}
+use Rattle.m88_mem.specs.Inside.Frames.{by_page, frame_at, frame_in, seen_as, table_entries, tabulated, with_frame, word_at, word_in, words_in}
+use Rattle.m88_mem.specs.Inside.Marks.{is_in, is_marked, mark_words}
 use Rattle.m88_mem.specs.Marks.{with_page}
 use Rattle.m88_mem.specs.declared.frames.FrameTable.{FrameTable}
 use Rattle.m88_mem.specs.declared.frames.PageFrame.{PageFrame}
@@ -83,16 +85,7 @@ seen_ready image tables absent long p =
 pub seen_marks : (words : List ℕ) → length words ≡ mark_words → (p : ℕ) → is_in (by_page (is_marked words)) p ≡ is_marked words p
 seen_marks words long p = at_page (is_marked words) false (no_mark_past words long) p
 
--- a set once a page is put in or taken out
-pub seen_with : (words : List ℕ) (set : List Bool) (page : ℕ) → length words ≡ mark_words → by_page (is_marked words) ≡ set →
-    page < page_count → (p : ℕ) →
-    is_in (by_page (is_marked (slice_set words (page / 32) (bit_or (slice_index_or words (page / 32) 0) (1 * 2 ^ (page % 32) % 2 ^ 32))))) p
-    ≡ (page == p || is_in set p)
-seen_with words set page long seen within p =
-    seen_marks _ (length-set words (page / 32) _ ∙ long) p
-    ∙ marked_with words page p (omega (arith, long, within))
-    ∙ ap (λ there. page == p || there) (sym (seen_marks words long p) ∙ ap (λ s. is_in s p) seen)
-
+-- a set once a page is taken out
 pub seen_without : (words : List ℕ) (set : List Bool) (page : ℕ) → length words ≡ mark_words → by_page (is_marked words) ≡ set →
     page < page_count → (p : ℕ) →
     is_in (by_page (is_marked (slice_set words (page / 32) (bit_and (slice_index_or words (page / 32) 0) (bit_not w32 (1 * 2 ^ (page % 32) % 2 ^ 32)))))) p

@@ -3,3 +3,4 @@ pub mod Frames
 pub mod Changes
 pub mod Lines
 pub mod Reads
+pub mod Marks

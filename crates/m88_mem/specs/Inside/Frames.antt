@@ -1,7 +1,6 @@
--- The frames of the pages that are ready, behind a table of two levels of 1,024 entries each, a bit for each page, 32
--- pages to a word, and how both are seen.
-use Rattle.std.specs.Prelude.{ℕ, zero, suc, Bool, true, false, List, [], ◌∷◌, Option, None, Some, ◌≡◌, ◌<◌, ◌+◌, ◌*◌, ◌/◌, ◌%◌, ◌^◌, ◌==◌, ◌&&◌, is_some, length, slice_get, slice_index_or, slice_set, unwrap_or, if◌then◌else◌, IfSome, OnErr, OnOk, Result}
-use Rattle.std.specs.Int.{bit_at}
+-- The frames of the pages that are ready, behind a table of two levels of 1,024 entries each, and how they are seen
+-- beside the pages that are absent.
+use Rattle.std.specs.Prelude.{ℕ, zero, suc, Bool, true, List, [], ◌∷◌, Option, None, Some, ◌≡◌, ◌<◌, ◌+◌, ◌*◌, ◌/◌, ◌%◌, ◌==◌, ◌&&◌, is_some, length, slice_get, slice_index_or, slice_set, unwrap_or, if◌then◌else◌, IfSome, OnErr, OnOk, Result}
 use Rattle.m88_base.specs.Image.{ProgramImage}
 use Rattle.m88_base.specs.Pages.{IsPage, page_count}
 use Rattle.m88_isa.specs.Lanes.{IsEnable, merged}
@@ -114,18 +113,6 @@ pub record CanPutInTable (table : Option FrameTable) (low place en : ℕ) : Type
   pub within : low < table_entries
   pub long : IfSome table (λ t. length t.frames.items ≡ table_entries)
   pub there : CanPutInFrame (frame_in table low) place en
-
--- how many words have a bit for each page
-abbrev pub mark_words : ℕ
-mark_words = 2 ^ 15
-
--- a page has its bit in some words
-abbrev pub is_marked : List ℕ → ℕ → Bool
-is_marked words page = bit_at (slice_index_or words (page / 32) 0) (page % 32) == 1
-
--- a page is in a set that has a value for each page
-abbrev pub is_in : List Bool → ℕ → Bool
-is_in pages page = slice_index_or pages page false
 
 -- as many values as said, those of a function from 0 on
 unfoldable pub tabulated : {X : Type 0} → ℕ → (ℕ → X) → List X

@@ -7,7 +7,8 @@ use Rattle.m88_mem.proofs.marks.PageMarks.clear.Goals as goal
 
 pub returns : goal.returns
 returns c =
-    let word : c.index_mut.result.now ≡ slice_index_or c.self.inside.words.items (c.args.page / 32) 0 =
-    c.index_mut.ensures.value
-    ∙ at_any c.self.inside.words.items (c.args.page / 32) c.index_mut.result.now 0 (omega (arith, c.self.invariant, c.requires)) in
-    rw word (fun_ext (seen_without c.self.inside.words.items _ c.args.page c.self.invariant c.self.view_is c.requires))
+    let long = c.self.invariant.long in
+    let word : c.index-word.result.now ≡ slice_index_or c.self.inside.words.items (c.args.page / 32) 0 =
+    c.index-word.ensures
+    ∙ at_any c.self.inside.words.items (c.args.page / 32) c.index-word.result.now 0 (omega (arith, long, c.requires)) in
+    rw word (fun_ext (seen_without c.self.inside.words.items _ c.args.page long c.self.view_is c.requires))
