@@ -1,6 +1,6 @@
 -- Along the letters of a route, one event after the other, and whole runs.
 use Rattle.std.specs.Prelude.{ℕ, zero, suc, Bool, false, not, List, [], ◌∷◌, Option, OnErr, OnOk, Result, Ok, Err, ◌≡◌, ◌+◌, ◌==◌}
-use Rattle.std.proofs.Common.{add-one, arith, refl, sym, ap, ap₂, ◌∙◌, subst}
+use Rattle.std.proofs.Common.{add-one, arith, sym, ap, ap₂, ◌∙◌, subst}
 use Rattle.std.proofs.Math.Path.{fun_ext}
 use Rattle.std.proofs.lemmas.Bool.{eqb-false, eqb-true}
 use Rattle.m88_event.proofs.Laws.{drained_seen, letter_events}

@@ -2,7 +2,6 @@
 use Rattle.std.specs.Prelude.{ℕ, Bool, true, false, not, Option, Some, None, ◌≡◌, ◌<◌, ◌≤◌, ◌+◌, ◌==◌, is_none, unwrap_or, if◌then◌else◌}
 use Rattle.std.proofs.Common.{arith, refl, sym, ap, subst, ◌∙◌}
 use Rattle.m88_isa.proofs.Laws.{by_test, some_from}
-use Rattle.m88_isa.specs.Machine.{Program}
 use Rattle.m88_event.proofs.Laws.{letter_events}
 use Rattle.m88_event.specs.Timeline.{Moment, is_drained, opening_moment}
 use Rattle.m88_event.specs.declared.letter.Letter.{Letter}
