@@ -9,7 +9,6 @@ use Rattle.m88_base.specs.declared.absent.Absent.TheVariants as absent
 use Rattle.m88_base.specs.declared.slot.Slot.{Slot}
 use Rattle.m88_ctrl.specs.ControlRegisters.{ControlRegisters, at_start, carry_of, mxm_of, with_carry}
 use Rattle.m88_event.specs.Shadow.{retired_pointer, status_of}
-use Rattle.m88_event.specs.declared.record.Record.{Record}
 use Rattle.m88_isa.specs.Address.{after_bytes}
 use Rattle.m88_isa.specs.Bus.{after_accesses}
 use Rattle.m88_isa.specs.Memory.{IsWordAccess}
@@ -46,7 +45,7 @@ word_or_none true address word = tt
 word_or_none false address word = word
 
 -- the parts of a board by its values
-pub parts_are : (b : BoardView) (regs : List ℕ) (carry : Bool) (pc next : ℕ) (last : Option ℕ) (out : List ℕ) (records : List Record) →
+pub parts_are : (b : BoardView) (regs : List ℕ) (carry : Bool) (pc next : ℕ) (last : Option ℕ) →
     IsKept b →
     is_some b.ended ≡ true →
     (waiting_of b.file ≡ none_waits → regs ≡ b.file.numbers) →
@@ -54,8 +53,6 @@ pub parts_are : (b : BoardView) (regs : List ℕ) (carry : Bool) (pc next : ℕ)
     pc ≡ b.slots.nip.addr →
     next ≡ b.slots.fip.addr →
     last ≡ last_of b.slots.xip →
-    out ≡ b.out →
-    records ≡ b.records →
     record {
       memory = b.memory;
       regs = regs;
@@ -67,10 +64,10 @@ pub parts_are : (b : BoardView) (regs : List ℕ) (carry : Bool) (pc next : ℕ)
       done = b.done;
       events = b.events;
       answers = b.answers;
-      out = out;
-      records = records;
+      out = b.out;
+      records = b.records;
     } ≡ parts_of b
-parts_are b regs carry pc next last out records kept ended values carries first second xip puts faults =
+parts_are b regs carry pc next last kept ended values carries first second xip =
     let valid : b.slots.nip.v ≡ true = kept.unbubbled ended in
     let regs_are = values (none_wait b kept (kept.drained ended)) in
     let pc_is = first ∙ sym (ap (λ (v : Bool). if v then b.slots.nip.addr else b.slots.fip.addr) valid) in
@@ -86,8 +83,8 @@ parts_are b regs carry pc next last out records kept ended values carries first 
       done = b.done;
       events = b.events;
       answers = b.answers;
-      out = puts i;
-      records = faults i;
+      out = b.out;
+      records = b.records;
     }
 
 -- a board may begin from them
@@ -173,8 +170,6 @@ mxm_right false = refl
 -- the board that begins from parts, with these registers
 abbrev begun_from : Parts → ℕ → Registers → BoardView
 begun_from parts limit file = record {
-  limit = limit;
-  named = absent.None;
   slots = record {
     xip = xip_of parts.last;
     nip = valid_slot parts.pc (lacks_word parts.memory.image parts.pc);
@@ -184,19 +179,23 @@ begun_from parts limit file = record {
   file = file;
   memory = parts.memory;
   control = begun_control parts.carry;
-  out = parts.out;
-  retired = parts.retired;
-  done = parts.done;
-  events = parts.events;
-  answers = parts.answers;
-  ended = None;
-  records = parts.records;
+  book = record {
+    absent = absent.None;
+    limit = limit;
+    retired = parts.retired;
+    done = parts.done;
+    events = parts.events;
+    answers = parts.answers;
+    end = None;
+    out = parts.out;
+    records = parts.records;
+  };
   begun = true;
 }
 
 -- what holds of it holds of any board whose parts are these
 pub begins : (P : BoardView → Type 0) (parts : Parts) (limit : ℕ) (file : Registers) (slots : Pointers) (xip nip fip : Slot)
-    (lacks lacks_next : Bool) (pending : List Access) (control started : ControlRegisters) (out : List ℕ) (records : List Record) →
+    (lacks lacks_next : Bool) (pending : List Access) (control started : ControlRegisters) →
     slots ≡ record { xip = xip; nip = nip; fip = fip } →
     xip ≡ xip_of parts.last →
     nip ≡ valid_slot parts.pc lacks →
@@ -206,28 +205,10 @@ pub begins : (P : BoardView → Type 0) (parts : Parts) (limit : ℕ) (file : Re
     pending ≡ [] →
     control ≡ record started { psr = with_carry parts.carry started.psr } →
     started ≡ at_start false →
-    out ≡ parts.out →
-    records ≡ parts.records →
     P (begun_from parts limit file) →
-    P (record {
-      limit = limit;
-      named = absent.None;
-      slots = slots;
-      pending = pending;
-      file = file;
-      memory = parts.memory;
-      control = control;
-      out = out;
-      retired = parts.retired;
-      done = parts.done;
-      events = parts.events;
-      answers = parts.answers;
-      ended = None;
-      records = records;
-      begun = true;
-    })
-begins P parts limit file slots xip nip fip lacks lacks_next pending control started out records s x n f e d p c a o r known =
-    rw (s, x, n, f, e, d, p, c, a, o, r) known
+    P (record (begun_from parts limit file) { slots = slots; pending = pending; control = control })
+begins P parts limit file slots xip nip fip lacks lacks_next pending control started s x n f e d p c a known =
+    rw (s, x, n, f, e, d, p, c, a) known
 
 from_last : (last : Option ℕ) → xip_of last ≡ (if (xip_of last).v then retired_pointer (xip_of last).addr else no_slot)
 from_last None = refl

@@ -1,11 +1,11 @@
 -- The last record is that of the fault.
-use Rattle.std.specs.Prelude.{List, [], ◌∷◌, ◌++◌, Some, ◌≡◌, ◌+◌, ◌-◌, length, slice_get}
+use Rattle.std.specs.Prelude.{List, [], ◌∷◌, ◌++◌, Some, ◌≡◌, ◌-◌, length, slice_get}
 use Rattle.std.proofs.lemmas.List.{length-append}
 use Rattle.std.proofs.Common.{arith, refl, sym, ap, ◌∙◌, subst}
 use Rattle.m88_event.specs.Choice.{Choice, faults}
 use Rattle.m88_event.specs.declared.happened.Happened.TheVariants.{Faulted}
 use Rattle.m88_event.specs.declared.record.Record.{Record}
-use Rattle.m88_board.specs.Board.{BoardView}
+use Rattle.m88_board.specs.Board.{BoardView, event_counted}
 use Rattle.m88_board.specs.Inside.Briefly.{by_fault, happened_of}
 use Rattle.m88_board.specs.Inside.Events.{Did, Does}
 use Rattle.m88_board.specs.declared.brief.Brief.{Brief}
@@ -37,7 +37,7 @@ fault_did record_now fault old new kept same does = record {
 }
 
 -- the count of events is no record
-uncounted : (brief : Brief) (b : BoardView) → happened_of brief (record b { events = b.events + 1 }) ≡ happened_of brief b
+uncounted : (brief : Brief) (b : BoardView) → happened_of brief (event_counted b) ≡ happened_of brief b
 uncounted brief.Issued b = refl
 uncounted brief.Bubble b = refl
 uncounted (brief.Stalled why) b = refl
@@ -48,12 +48,12 @@ uncounted brief.Idle b = refl
 uncounted (brief.Served byte) b = refl
 uncounted brief.Ended b = refl
 
-pub told_counted : (brief : Brief) (middle new : BoardView) → new ≡ record middle { events = middle.events + 1 } →
+pub told_counted : (brief : Brief) (middle new : BoardView) → new ≡ event_counted middle →
     happened_of brief middle ≡ happened_of brief new
 told_counted brief middle new is = sym (ap (happened_of brief) is ∙ uncounted brief middle)
 
 pub did_counted : (choice : Choice) (fault : Record) (old middle new : BoardView) (brief : Brief) →
-    new ≡ record middle { events = middle.events + 1 } →
+    new ≡ event_counted middle →
     Did choice fault old (happened_of brief middle) middle →
     Did choice fault old (happened_of brief new) middle
 did_counted choice fault old middle new brief is did =

@@ -1,13 +1,15 @@
 -- What an event brings, by the choice that its letter comes to.
-use Rattle.std.specs.Prelude.{ℕ, Bool, true, false, None, List, [], ◌∷◌, ◌++◌, Some, ◌≡◌, ◌≤◌, ◌+◌, ◌&&◌, length, slice_get}
+use Rattle.std.specs.Prelude.{ℕ, Bool, true, false, IfSome, None, List, [], ◌∷◌, ◌++◌, Some, ◌≡◌, ◌≤◌, ◌+◌, ◌&&◌, length, slice_get}
 use Rattle.std.proofs.Common.{refl, sym, ◌∙◌, subst}
+use Rattle.m88_base.specs.Reg.{number_of}
 use Rattle.m88_event.specs.Choice.{Choice, answer_choice, faults, holds, idles, issues, turn_choice, why_of}
 use Rattle.m88_event.specs.Local.{choice_by, record_by}
 use Rattle.m88_event.specs.declared.happened.Happened.{Happened}
 use Rattle.m88_event.specs.declared.letter.Letter.{Letter}
 use Rattle.m88_event.specs.declared.letter.Letter.TheVariants.{Answer, Issue}
 use Rattle.m88_event.specs.declared.record.Record.{Record}
-use Rattle.m88_isa.specs.Effect.{Change}
+use Rattle.m88_isa.specs.Bus.{waits_for}
+use Rattle.m88_isa.specs.Effect.{Change, recorded_change}
 use Rattle.m88_isa.specs.Held.{Hold, is_pending, most_pending}
 use Rattle.m88_isa.specs.ImageProgram.{IsProgramOf}
 use Rattle.m88_isa.specs.Machine.{Program, Stop, turn_of_service}
@@ -28,7 +30,7 @@ use Rattle.m88_board.proofs.Planned.{free_of, going_of, planned_issues}
 use Rattle.m88_board.specs.Board.{BoardView, local_of}
 use Rattle.m88_board.specs.Inside.Briefly.{happened_of}
 use Rattle.m88_board.specs.Inside.Events.{Brings, Did, Does, TellsPlan}
-use Rattle.m88_board.specs.Inside.Turns.{IsIssuedWith, IsPlanned, IssueComesTo, choice_for, stopping}
+use Rattle.m88_board.specs.Inside.Turns.{IsPlanned, IssueComesTo, choice_for, stopping}
 use Rattle.m88_board.specs.Moves.{IsStill}
 use Rattle.m88_board.specs.Shown.{Leaves, ShowsFault, rest_of}
 use Rattle.m88_board.specs.Told.{MakesWordAccesses}
@@ -116,6 +118,14 @@ tells_planned i effect b before told planned comes tells made = record {
   made = made;
 }
 
+-- the next instruction is issued with these changes, and the register that is written doesn't wait
+pub record IsIssuedWith (effect : Effect) (b : BoardView) : Type 0 where
+  pub free : IfSome effect.reg (λ write. waits_for b.pending (number_of write.0) ≡ false)
+  pub change : Change
+  pub same : effect ≡ recorded_change change
+  pub few : length change.touches ≤ 2
+  pub comes : IssueComesTo (issues change) b
+
 -- where nothing holds it, it is issued with its planned changes
 pub issued_with : (i : Instr) (effect : Effect) (b : BoardView) → IsPlanned i effect b →
     IssueComesTo (choice_for (Some i) b) b →
@@ -125,7 +135,6 @@ pub issued_with : (i : Instr) (effect : Effect) (b : BoardView) → IsPlanned i 
 issued_with i effect b planned comes room goes_on =
     let going = going_of i effect b planned in
     record {
-      flow = planned.flow;
       free = free_of i effect b planned;
       change = going.on.change;
       same = going.on.same;

@@ -11,7 +11,6 @@ use Rattle.m88_event.specs.Timeline.{Moment, end_of_turn, is_drained, is_idle, i
 use Rattle.m88_event.specs.declared.happened.End.{End}
 use Rattle.m88_event.specs.declared.happened.End.TheVariants.{Limit}
 use Rattle.m88_event.specs.declared.outcome.Outcome.{Outcome}
-use Rattle.m88_event.specs.declared.record.Record.{Record}
 use Rattle.m88_isa.proofs.Laws.{program_of_image}
 use Rattle.m88_isa.specs.Bus.{after_accesses, changed_words, in_words, waits_for}
 use Rattle.m88_isa.specs.Held.{is_pending}
@@ -26,6 +25,7 @@ use Rattle.m88_board.proofs.Shown.{over_at}
 use Rattle.m88_board.proofs.Starting.{same_bytes}
 use Rattle.m88_board.specs.Board.{BoardView, cells_in, completed_of, is_idle_board, local_of}
 use Rattle.m88_board.specs.Kept.{IsKept, IsProgramEnd}
+use Rattle.m88_board.specs.Inside.Books.{outcome_in}
 use Rattle.m88_board.specs.Moves.{IsAt}
 use Rattle.m88_board.specs.Shown.{IsSettled}
 
@@ -79,42 +79,28 @@ unfolding completed_of after_accesses
 words_seen b none = sym (ap (λ (xs : List Access). (after_accesses xs (cells_in b.file b.memory)).bus) none)
 
 -- the whole, as it is seen
-pub came_to : (b : BoardView) (end : End) (regs : List ℕ) (carry : Bool) (out : List ℕ) (changed : List (ℕ × ℕ))
-    (records : List Record) →
+pub came_to : (b : BoardView) (regs : List ℕ) (carry : Bool) (o : Outcome) →
     IsKept b →
     b.pending ≡ [] →
-    end ≡ unwrap_or b.ended Limit →
     (waiting_of b.file ≡ none_waits → regs ≡ b.file.numbers) →
     carry ≡ carry_of b.control →
-    out ≡ b.out →
-    changed ≡ changed_words (image_bus b.memory.image) (bus_of b.memory) →
-    records ≡ b.records →
-    record {
-      end = end;
-      retired = b.retired;
-      regs = regs;
-      carry = carry;
-      out = out;
-      changed = changed;
-      events = b.events;
-      answers = b.answers;
-      records = records;
-    } ≡ outcome_by (image_bus b.memory.image) (local_of b)
+    o ≡ outcome_in b.book regs carry b.memory →
+    o ≡ outcome_by (image_bus b.memory.image) (local_of b)
 unfolding outcome_by local_of completed_of
-came_to b end regs carry out changed records kept none ends values carries puts changes faults =
+came_to b regs carry o kept none values carries comes =
     let regs_are = values (none_wait b kept none) ∙ registers_seen b none in
-    let changed_is = changes ∙ ap (changed_words (image_bus b.memory.image)) (words_seen b none) in
-    λ i. record {
-      end = ends i;
+    let changed_is = ap (changed_words (image_bus b.memory.image)) (words_seen b none) in
+    comes ∙ (λ i. record {
+      end = unwrap_or b.ended Limit;
       retired = b.retired;
       regs = regs_are i;
       carry = carries i;
-      out = puts i;
+      out = b.out;
       changed = changed_is i;
       events = b.events;
       answers = b.answers;
-      records = faults i;
-    }
+      records = b.records;
+    })
 
 -- and that of a moment
 pub came_to_at : (p : Program) (named : ℕ → Bool) (m : Moment) (b : BoardView) (o : Outcome) →
@@ -185,11 +171,12 @@ unfolding local_of
 over_idle p named m b at over =
     second_of (not (is_pending b.pending)) (is_idle_board b) (over_at p named m b at ∙ over)
 
-pub limited : (p : Program) (named : ℕ → Bool) (m : Moment) (b : BoardView) (end : End) →
+pub limited : (p : Program) (named : ℕ → Bool) (m : Moment) (b : BoardView) (regs : List ℕ) (carry : Bool) (o : Outcome) →
     IsKept b →
     IsAt p named m b →
     is_over p b.limit m ≡ true →
-    end ≡ unwrap_or b.ended Limit →
-    (end ≡ Limit) ↔ (b.retired ≡ b.limit)
-limited p named m b end kept at over is =
-    limited_by b.ended b.retired b.limit end kept.early kept.ends (over_idle p named m b at over) is
+    o ≡ outcome_in b.book regs carry b.memory →
+    (o.end ≡ Limit) ↔ (o.retired ≡ b.limit)
+limited p named m b regs carry o kept at over comes =
+    subst (λ (x : Outcome). (x.end ≡ Limit) ↔ (x.retired ≡ b.limit)) (sym comes)
+    (limited_by b.ended b.retired b.limit (unwrap_or b.ended Limit) kept.early kept.ends (over_idle p named m b at over) refl)

@@ -4,7 +4,7 @@ use Rattle.std.proofs.Common.{ap, sym, subst}
 use Rattle.m88_base.specs.Image.{IsImage}
 use Rattle.m88_mem.specs.DataBus.{MemoryView, bus_of, ready_of}
 use Rattle.m88_board.proofs.Stopping.{still_ends}
-use Rattle.m88_board.specs.Board.{BoardView}
+use Rattle.m88_board.specs.Board.{BoardView, event_counted}
 use Rattle.m88_board.specs.Kept.{AreReady, IsKept, SlotsAgree}
 use Rattle.m88_board.specs.Moves.{IsEvicted}
 
@@ -41,10 +41,10 @@ kept_evicted b memory kept bus ready image = record {
 }
 
 -- the count of events is no page
-pub evicted_counted : (old middle new : BoardView) → new ≡ record middle { events = middle.events + 1 } → IsEvicted old middle →
+pub evicted_counted : (old middle new : BoardView) → new ≡ event_counted middle → IsEvicted old middle →
     IsEvicted old new
 evicted_counted old middle new is evicted = subst (λ (b : BoardView). IsEvicted old b) (sym is) (record {
-  rest = ap (λ (b : BoardView). record b { events = middle.events + 1 }) evicted.rest;
+  rest = ap (λ (b : BoardView). record b { book = record b.book { events = middle.events + 1 } }) evicted.rest;
   image = evicted.image;
   bus = evicted.bus;
   ready = evicted.ready;

@@ -40,8 +40,7 @@ pub does_fault : (b : BoardView) (file : Registers) (memory : MemoryView) (contr
       file = file;
       memory = memory;
       control = control;
-      done = done;
-      records = records;
+      book = record b.book { done = done; records = records };
     })
 does_fault b file memory control slots pending done records fault empty cells absent image psr same count joined =
     subst (λ (xs : List Access). Does faults fault b (record b {
@@ -50,8 +49,7 @@ does_fault b file memory control slots pending done records fault empty cells ab
       file = file;
       memory = memory;
       control = control;
-      done = done;
-      records = records;
+      book = record b.book { done = done; records = records };
     })) (sym empty)
     (subst (λ (rs : List Record). Does faults fault b (record b {
       slots = slots;
@@ -59,8 +57,7 @@ does_fault b file memory control slots pending done records fault empty cells ab
       file = file;
       memory = memory;
       control = control;
-      done = done;
-      records = rs;
+      book = record b.book { done = done; records = rs };
     })) (sym joined)
     (faulted fault b file memory control slots done cells
     (ap (λ (c : Cells). c.bus) cells ∙ cells_bus b.pending (cells_in b.file b.memory))
@@ -84,8 +81,7 @@ pub kept_faulted : (b : BoardView) (file : Registers) (memory : MemoryView) (con
       file = file;
       memory = memory;
       control = control;
-      done = done;
-      records = records;
+      book = record b.book { done = done; records = records };
     })
 kept_faulted b file memory control slots pending done records fault kept some empty waiting image psr same count joined =
     let going = still_going b kept some in

@@ -23,10 +23,10 @@ use Rattle.m88_isa.specs.declared.instr.Instr.{Instr}
 use Rattle.m88_isa.specs.declared.planned.Access.{Access}
 use Rattle.m88_iunit.specs.Pointers.{word_behind}
 use Rattle.m88_board.specs.Board.{BoardView, completed_of, is_idle_board, local_of, pc_of}
-use Rattle.m88_board.specs.Kept.{SlotsAgree, lacks_word}
+use Rattle.m88_board.specs.Kept.{IsKept, SlotsAgree, lacks_word}
 use Rattle.m88_board.proofs.Choosing.{at_pc}
 use Rattle.m88_board.specs.Inside.NoInstruction.{HasNoInstruction, IsFoundAt, IsFoundNext}
-use Rattle.m88_board.specs.Inside.Turns.{IsDue, IssueComesTo, choice_for, stopping}
+use Rattle.m88_board.specs.Inside.Turns.{HasTurn, IsDue, IssueComesTo, choice_for, stopping}
 
 -- no more may be issued
 pub idles_by : (p : Program) (b : BoardView) → is_idle_board b ≡ true →
@@ -100,13 +100,14 @@ set_where_not_unset : (v : Bool) → not v ≡ false → v ≡ true
 set_where_not_unset true h = refl
 set_where_not_unset false h = absurd cc
 
--- the next instruction isn't passed over, and stands at NIP
-pub next_here : (inside b : BoardView) (slot : Slot) → inside ≡ b → slot ≡ inside.slots.nip → not slot.v ≡ false →
-    (b.slots.nip.v ≡ true) × (slot.addr ≡ pc_of b.slots)
-next_here inside b slot same is marked =
-    let valid : b.slots.nip.v ≡ true =
-    sym (ap (λ (s : Slot). s.v) is ∙ ap (λ (x : BoardView). x.slots.nip.v) same) ∙ set_where_not_unset slot.v marked in
-    (valid, at_pc inside.slots b.slots slot is (ap (λ (x : BoardView). x.slots) same) valid)
+-- the next instruction isn't passed over
+pub next_due : (inside b : BoardView) (slot : Slot) → inside ≡ b → slot ≡ inside.slots.nip → not slot.v ≡ false →
+    is_idle_board b ≡ false →
+    IsDue b
+next_due inside b slot same is marked going = record {
+  going = going;
+  valid = sym (ap (λ (s : Slot). s.v) is ∙ ap (λ (x : BoardView). x.slots.nip.v) same) ∙ set_where_not_unset slot.v marked;
+}
 
 -- the word can't be fetched
 lacks_by : (p : Program) (b : BoardView) → IsProgramOf b.memory.image p → is_idle_board b ≡ false →
@@ -163,7 +164,7 @@ turns_by p b word i of goes next small is only =
     (instruction_at_word b.memory.image p (pc_of b.slots) word of next.aligned small next.bytes) is only)
 
 -- the instruction that was found there, which has its turn
-pub line_by : (b : BoardView) (line : Line) → IsDue b → line.addr ≡ pc_of b.slots → IsLine b.memory.image line →
+line_by : (b : BoardView) (line : Line) → IsDue b → line.addr ≡ pc_of b.slots → IsLine b.memory.image line →
     line.word < 2 ^ 32 →
     IssueComesTo (choice_for (Some line.instr) b) b
 line_by b line due here is small = λ p of.
@@ -176,7 +177,7 @@ line_by b line due here is small = λ p of.
     (λ j other. one_reading line.word j line.instr other is.instruction)
 
 -- and the vector that is raised where none was found
-pub vector_by : (b : BoardView) (vector : ℕ) → IsDue b → pc_of b.slots % 4 ≡ 0 →
+vector_by : (b : BoardView) (vector : ℕ) → IsDue b → pc_of b.slots % 4 ≡ 0 →
     HasNoInstruction b.memory.image (pc_of b.slots) vector →
     IssueComesTo (stopping (by_vector vector (pc_of b.slots)) b.pending) b
 vector_by b vector due aligned (inl lacks) = λ p of.
@@ -205,14 +206,40 @@ found_unmarked b line agree valid here is =
     ∙ ap (λ (a : ℕ). lacks_word b.memory.image a) (sym at)
     ∙ ap (λ (o : Option (List ℕ)). is_none o) is.word
 
-pub found_next : (found : Result Line ℕ) (b : BoardView) → SlotsAgree b.memory.image b.slots → b.slots.nip.v ≡ true →
+next_found : (found : Result Line ℕ) (b : BoardView) → IsDue b → SlotsAgree b.memory.image b.slots →
     pc_of b.slots % 4 ≡ 0 →
     IsFoundAt b.memory.image (pc_of b.slots) found →
     IsFoundNext found b
-found_next (Ok line) b agree valid aligned there = record {
+next_found (Ok line) b due agree aligned there = record {
+  due = due;
   aligned = aligned;
   found_there = there;
-  unmarked = found_unmarked b line agree valid there.0 there.1;
+  unmarked = found_unmarked b line agree due.valid there.0 there.1;
 }
-found_next (Err vector) b agree valid aligned there =
-    record { aligned = aligned; found_there = there; unmarked = tt }
+next_found (Err vector) b due agree aligned there =
+    record { due = due; aligned = aligned; found_there = there; unmarked = tt }
+
+-- what is found at the address of NIP is that
+pub found_next : (inside b : BoardView) (slot : Slot) (found : Result Line ℕ) → inside ≡ b → IsKept inside → IsDue b →
+    slot ≡ inside.slots.nip →
+    slot.addr % 4 ≡ 0 →
+    IsFoundAt b.memory.image slot.addr found →
+    IsFoundNext found b
+found_next inside b slot found same kept due is word there =
+    let here : slot.addr ≡ pc_of b.slots =
+    at_pc inside.slots b.slots slot is (ap (λ (x : BoardView). x.slots) same) due.valid in
+    next_found found b due (subst IsKept same kept).slots (subst (λ (a : ℕ). a % 4 ≡ 0) here word)
+    (subst (λ (a : ℕ). IsFoundAt b.memory.image a found) here there)
+
+-- the instruction that was found has its turn
+pub turn_found : (line : Line) (b : BoardView) → IsFoundNext (Ok line) b → line.word < 2 ^ 32 → HasTurn line.instr b
+turn_found line b found small = record {
+  next = record { due = found.due; fetched = found.unmarked };
+  instr = found.found_there.1.instruction.0;
+  comes = line_by b line found.due found.found_there.0 found.found_there.1 small;
+}
+
+-- and the vector is raised
+pub raise_found : (vector : ℕ) (b : BoardView) → IsFoundNext (Err vector) b →
+    IssueComesTo (stopping (by_vector vector (pc_of b.slots)) b.pending) b
+raise_found vector b found = vector_by b vector found.due found.aligned found.found_there

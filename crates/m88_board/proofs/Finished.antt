@@ -19,7 +19,7 @@ pub kept_finished : (b : BoardView) (control : ControlRegisters) (end : End) →
     control.psr ≡ bit_or b.control.psr exception_bits →
     control.epsr ≡ b.control.psr →
     mxm_of control ≡ mxm_of b.control →
-    IsKept (record b { control = control; ended = Some end })
+    IsKept (record b { control = control; book = record b.book { end = Some end } })
 kept_finished b control end kept due comes psr epsr same_mxm =
     let carry = carry_entered b.control control psr in
     let more = one_more b due.going kept.within in

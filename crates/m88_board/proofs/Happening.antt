@@ -15,7 +15,7 @@ use Rattle.m88_mem.specs.DataBus.{absent_of}
 use Rattle.m88_board.proofs.Briefly.{did_counted, told_counted}
 use Rattle.m88_board.proofs.Leaving.{leaves_counted}
 use Rattle.m88_board.proofs.Moving.{along, answer_chosen, ended_so, fewer_answered, moved_by, precise_on, says_so}
-use Rattle.m88_board.specs.Board.{BoardView, local_of}
+use Rattle.m88_board.specs.Board.{BoardView, event_counted, local_of}
 use Rattle.m88_board.specs.Inside.Briefly.{happened_of}
 use Rattle.m88_board.specs.Inside.Events.{Brings, Does}
 use Rattle.m88_board.specs.Kept.{IsKept}
@@ -34,7 +34,7 @@ shorter_by p letter old middle does is =
     (ap (λ (x : Letter). choice_by p old.limit x (local_of old)) is ∙ answer_chosen p old) does)
 
 pub happens : (letter : Letter) (old middle : BoardView) (b : Brief) (new : BoardView) →
-    new ≡ record middle { events = middle.events + 1 } →
+    new ≡ event_counted middle →
     IsKept new →
     Brings letter old b middle →
     Happens letter old (happened_of b new) new
@@ -60,7 +60,7 @@ happens letter old middle b new is kept brings =
           ∙ ap (λ (n : ℕ). n + 1) brings.events;
       same = (moved p of).same;
       still = λ still. is
-          ∙ ap (λ (x : BoardView). record x { events = x.events + 1 }) (brings.still (subst IsStill (sym told) still));
+          ∙ ap event_counted (brings.still (subst IsStill (sym told) still));
       shorter = λ answer. subst (λ (x : BoardView). length x.pending ≤ length old.pending - 1) (sym is)
           (shorter_by p letter old middle (brings.did p of).does answer);
       leaves = leaves_counted old h middle new is (subst (λ (x : Happened). Leaves x old middle) told brings.leaves);

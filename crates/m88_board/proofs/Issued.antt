@@ -52,9 +52,27 @@ listed_made a can = by_test (a.count == 0)
     rw (some, two) (All-cons IsWordAccess a.first (a.second ∷ []) (can.first (omega (arith, no)))
     (All-cons IsWordAccess a.second [] (can.second (omega (arith, no, other))) (All-nil IsWordAccess)))))
 
+-- the status of a program that goes on stands in PSR
+pub status_same : (b : BoardView) → IsKept b → is_idle_board b ≡ false →
+    b.control.psr ≡ status_of (carry_of b.control) (mxm_of b.control)
+status_same b kept goes =
+    sym (ap (λ (t : Bool). if t then b.control.epsr else b.control.psr) (not_ended b goes)) ∙ kept.status
+
+-- and so it does with another carry
+pub status_changed : (b : BoardView) (control : ControlRegisters) (carry : Bool) → IsKept b → is_idle_board b ≡ false →
+    control ≡ record b.control { psr = with_carry carry b.control.psr } →
+    carry_of control ≡ carry →
+    mxm_of control ≡ mxm_of b.control →
+    control.psr ≡ status_of (carry_of control) (mxm_of control)
+status_changed b control carry kept goes changed carries same_mxm =
+    ap (λ (c : ControlRegisters). c.psr) changed
+    ∙ ap (with_carry carry) (status_same b kept goes)
+    ∙ carried (mxm_of b.control) (carry_of b.control) carry
+    ∙ ap₂ status_of (sym carries) (sym same_mxm)
+
 -- an instruction is issued
 pub kept_issued : (b : BoardView) (accesses : Accesses) (slots : Pointers) (pending : List Access) (file : Registers)
-    (memory : MemoryView) (control : ControlRegisters) (carry : Bool) →
+    (memory : MemoryView) (control : ControlRegisters) →
     IsKept b →
     is_idle_board b ≡ false →
     CanIssue accesses →
@@ -67,19 +85,17 @@ pub kept_issued : (b : BoardView) (accesses : Accesses) (slots : Pointers) (pend
     SlotsAgree memory.image slots →
     slots.xip.v ≡ true →
     memory.image ≡ b.memory.image →
-    control ≡ record b.control { psr = with_carry carry b.control.psr } →
-    carry_of control ≡ carry →
-    mxm_of control ≡ mxm_of b.control →
+    control.psr ≡ status_of (carry_of control) (mxm_of control) →
     IsKept (record b {
       slots = slots;
       pending = pending;
       file = file;
       memory = memory;
       control = control;
-      retired = b.retired + 1;
+      book = record b.book { retired = b.retired + 1 };
     })
-kept_issued b accesses slots pending file memory control carry kept goes can room apart joined waiting stays ready agree
-    behind image changed carries same_mxm =
+kept_issued b accesses slots pending file memory control kept goes can room apart joined waiting stays ready agree
+    behind image status =
     let more = length-append b.pending (listed accesses) in
     let count = listed_count accesses can.count in
     let all = ap length joined in
@@ -104,11 +120,7 @@ kept_issued b accesses slots pending file memory control carry kept goes can roo
       slots = agree;
       bubbled = λ bubble. record { some = omega arith; xip = behind };
       unbubbled = λ ended. absurd (let no = going in cc);
-      status = ap (λ (t : Bool). if t then control.epsr else control.psr) going
-          ∙ ap (λ (c : ControlRegisters). c.psr) changed
-          ∙ ap (with_carry carry) (sym (ap (λ (t : Bool). if t then b.control.epsr else b.control.psr) going) ∙ kept.status)
-          ∙ carried (mxm_of b.control) (carry_of b.control) carry
-          ∙ ap₂ status_of (sym carries) (sym same_mxm);
+      status = ap (λ (t : Bool). if t then control.epsr else control.psr) going ∙ status;
       drained = λ ended. absurd (let no = going in cc);
       made = omega (arith, all, more, count, most, made);
       told = kept.told;
@@ -140,7 +152,7 @@ pub issued_by : (fault : Record) (change : Change) (effect : Effect) (b : BoardV
       file = file;
       memory = memory;
       control = control;
-      retired = b.retired + 1;
+      book = record b.book { retired = b.retired + 1 };
     })
 unfolding completed_of
 issued_by fault change effect b slots pending file memory control is few free on joined numbers bus absent image carries same_mxm =

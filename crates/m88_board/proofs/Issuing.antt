@@ -157,13 +157,20 @@ held_full : (i : Instr) (turn : Turn) (pending : List Access) → busy_register 
     next_choice (held (Some i) turn pending) turn ≡ holds full
 held_full i turn pending free exceeded = rw (free, exceeded) refl
 
+-- both of two tests hold
+both_of : (a b : Bool) → (a && b) ≡ true → (a ≡ true) × (b ≡ true)
+both_of true true h = (refl, refl)
+both_of true false h = absurd cc
+both_of false b h = absurd cc
+
 -- a turn with room, which waits for an empty data unit
 held_sync : (i : Instr) (turn : Turn) (pending : List Access) → busy_register (Some i) pending ≡ None →
     exceeds turn (length pending) ≡ false →
-    waits_for_empty i ≡ true →
-    is_pending pending ≡ true →
+    (is_pending pending && waits_for_empty i) ≡ true →
     next_choice (held (Some i) turn pending) turn ≡ holds sync
-held_sync i turn pending free room trap some = rw (free, room, trap, some) refl
+held_sync i turn pending free room waits =
+    let both = both_of (is_pending pending) (waits_for_empty i) waits in
+    rw (free, room, both.1, both.0) refl
 
 -- a turn that nothing holds
 unheld : (i : Instr) (turn : Turn) (pending : List Access) → busy_register (Some i) pending ≡ None →
@@ -171,6 +178,9 @@ unheld : (i : Instr) (turn : Turn) (pending : List Access) → busy_register (So
     (is_pending pending && needs_empty (Some i) turn) ≡ false →
     next_choice (held (Some i) turn pending) turn ≡ turn_choice turn
 unheld i turn pending free room goes_on = rw (free, room, goes_on) refl
+
+some_waits : (pending trap : Bool) → pending ≡ true → trap ≡ true → (pending && trap) ≡ true
+some_waits pending trap some waits = rw (some, waits) refl
 
 -- a taken trap waits for an empty data unit
 pub trap_held : (i : Instr) (b : BoardView) (vector : ℕ) → busy_register (Some i) b.pending ≡ None →
@@ -181,7 +191,7 @@ trap_held i b vector free means some =
     let c = completed_of b in
     by_meaning i b (traps vector) means
     ∙ held_sync i (trapped vector c.regs c.pc) b.pending free (trap_room vector c.regs c.pc (length b.pending))
-    (traps_wait i c.regs c.carry c.mxm c.pc c.next vector means) some
+    (some_waits (is_pending b.pending) (waits_for_empty i) some (traps_wait i c.regs c.carry c.mxm c.pc c.next vector means))
 
 -- and then has its turn
 pub trap_turn : (i : Instr) (b : BoardView) (vector : ℕ) → busy_register (Some i) b.pending ≡ None →
@@ -254,27 +264,26 @@ go_full i b effect going many =
 -- and while it waits for an empty data unit
 pub go_sync : (i : Instr) (b : BoardView) (effect : Effect) → IsGoing i b effect →
     length b.pending + effect.accesses.count ≤ most_pending →
-    waits_for_empty i ≡ true →
-    is_pending b.pending ≡ true →
+    (is_pending b.pending && waits_for_empty i) ≡ true →
     choice_for (Some i) b ≡ holds sync
-go_sync i b effect going few trap some =
+go_sync i b effect going few waits =
     let count = count_is i b effect going in
     by_meaning i b (goes going.on.change) going.on.means
-    ∙ held_sync i (changes going.on.change) b.pending going.free (grind (arith, nat_tests)) trap some
+    ∙ held_sync i (changes going.on.change) b.pending going.free (grind (arith, nat_tests)) waits
 
 -- nothing is pending
 pub nothing_pending : (pending : List Access) → is_pending pending ≡ false → pending ≡ []
 nothing_pending [] h = refl
 nothing_pending (a ∷ pending) h = absurd cc
 
--- it doesn't wait where nothing is pending
-pub none_to_wait_for : (pending trap : Bool) → pending ≡ false → (pending && trap) ≡ false
-none_to_wait_for pending trap h = rw h refl
+-- it waits where something is pending, if it waits at all
+pub waits_by : (pending waits asked : Bool) → asked ≡ waits → asked ≡ true → pending ≡ (pending && waits)
+waits_by true waits asked is h = sym (sym is ∙ h)
+waits_by false waits asked is h = refl
 
--- or where it is no trap
-pub no_trap : (pending trap : Bool) → trap ≡ false → (pending && trap) ≡ false
-no_trap true trap h = h
-no_trap false trap h = refl
+pub waits_not : (pending waits asked : Bool) → asked ≡ waits → asked ≡ false → false ≡ (pending && waits)
+waits_not true waits asked is h = sym (sym is ∙ h)
+waits_not false waits asked is h = refl
 
 -- an instruction that goes on doesn't end the program
 no_stop : (pending trap : Bool) → (pending && trap) ≡ false → (pending && (trap || false)) ≡ false

@@ -1,15 +1,15 @@
 -- The control registers that an event leaves.
-use Rattle.std.specs.Prelude.{ℕ, ◌≡◌, ◌+◌}
+use Rattle.std.specs.Prelude.{ℕ, ◌≡◌}
 use Rattle.std.proofs.Common.{ap, subst, sym, ◌∙◌}
 use Rattle.m88_ctrl.specs.ControlRegisters.{ControlRegisters}
 use Rattle.m88_event.specs.declared.happened.Happened.{Happened}
 use Rattle.m88_event.specs.declared.happened.Happened.TheVariants.{Issued, Bubble, Stalled, Answered, Faulted, Idle, Served, Ended, Evicted}
-use Rattle.m88_board.specs.Board.{BoardView}
+use Rattle.m88_board.specs.Board.{BoardView, event_counted}
 use Rattle.m88_board.specs.Shown.{Leaves}
 
 -- the count of events is no register
 same_left : (old : BoardView) (h : Happened) (new : BoardView) → Leaves h old new →
-    Leaves h old (record new { events = new.events + 1 })
+    Leaves h old (event_counted new)
 same_left old Issued new left = left
 same_left old Bubble new left = left
 same_left old (Stalled why) new left = left
@@ -21,7 +21,7 @@ same_left old (Ended end) new left = left
 same_left old Evicted new left = left
 
 pub leaves_counted : (old : BoardView) (h : Happened) (middle new : BoardView) →
-    new ≡ record middle { events = middle.events + 1 } →
+    new ≡ event_counted middle →
     Leaves h old middle →
     Leaves h old new
 leaves_counted old h middle new is left =

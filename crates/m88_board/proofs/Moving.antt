@@ -1,5 +1,5 @@
 -- An event is the move of what is seen, and so goes along the timeline.
-use Rattle.std.specs.Prelude.{ℕ, Bool, true, false, if◌then◌else◌, List, [], ◌∷◌, ◌≡◌, ◌≤◌, ◌+◌, ◌-◌, length}
+use Rattle.std.specs.Prelude.{ℕ, Bool, true, false, if◌then◌else◌, List, [], ◌∷◌, ◌≡◌, ◌≤◌, ◌-◌, length}
 use Rattle.std.proofs.Common.{arith, refl, sym, ap, ◌∙◌, subst}
 use Rattle.std.proofs.lemmas.List.{length-drop}
 use Rattle.m88_base.specs.Pages.{page_number}
@@ -16,7 +16,7 @@ use Rattle.m88_isa.specs.Held.{is_pending}
 use Rattle.m88_isa.specs.Machine.{IsProgram, Program}
 use Rattle.m88_isa.specs.declared.planned.Access.{Access}
 use Rattle.m88_mem.specs.DataBus.{absent_of}
-use Rattle.m88_board.specs.Board.{BoardView, completed_of, local_of}
+use Rattle.m88_board.specs.Board.{BoardView, completed_of, event_counted, local_of}
 use Rattle.m88_isa.specs.ImageProgram.{IsProgramOf}
 use Rattle.m88_board.specs.Moves.{IsAt, IsMove, end_after}
 use Rattle.m88_board.specs.Inside.Events.{Did, Does}
@@ -24,7 +24,7 @@ use Rattle.m88_board.specs.Inside.Events.{Did, Does}
 -- a choice that was made and counted is the move
 pub counted : (p : Program) (letter : Letter) (old middle : BoardView) (h : Happened) →
     Did (choice_by p old.limit letter (local_of old)) (record_by p old.limit (local_of old)) old h middle →
-    IsMove p letter old h (record middle { events = middle.events + 1 })
+    IsMove p letter old h (event_counted middle)
 unfolding move said_by local_of completed_of
 counted p letter old middle h did = record {
   says = did.says;
@@ -54,7 +54,7 @@ along p named m letter old h new is at moved = record {
 
 -- the same of a board whose events are counted behind it
 pub moved_by : (p : Program) (letter : Letter) (old middle : BoardView) (h : Happened) (new : BoardView) →
-    new ≡ record middle { events = middle.events + 1 } →
+    new ≡ event_counted middle →
     Did (choice_by p old.limit letter (local_of old)) (record_by p old.limit (local_of old)) old h middle →
     IsMove p letter old h new
 moved_by p letter old middle h new is did =

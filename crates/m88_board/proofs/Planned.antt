@@ -1,5 +1,5 @@
 -- An instruction that goes on: what its outline says of its changes.
-use Rattle.std.specs.Prelude.{ℕ, Bool, false, Some, ◌≡◌, ◌≤◌, ◌+◌, ◌++◌, List, [], IfSome, None, length, nat_lt}
+use Rattle.std.specs.Prelude.{ℕ, Bool, false, Some, ◌≡◌, ◌≤◌, ◌+◌, ◌++◌, ◌&&◌, List, [], IfSome, None, length, nat_lt}
 use Rattle.std.proofs.Common.{arith, ap, subst, sym}
 use Rattle.std.proofs.lemmas.Bool.{ltb-true, ltb-false}
 use Rattle.std.proofs.lemmas.List.{append-nil}
@@ -20,7 +20,7 @@ use Rattle.m88_isa.specs.declared.planned.Accesses.{Accesses}
 use Rattle.m88_isa.specs.declared.planned.Effect.{Effect}
 use Rattle.m88_isa.specs.declared.planned.Plan.{Plan}
 use Rattle.m88_isa.specs.declared.planned.Plan.TheVariants.{Go}
-use Rattle.m88_board.proofs.Issuing.{IsGoing, go_full, go_issued, go_sync, is_going, no_trap, none_to_wait_for}
+use Rattle.m88_board.proofs.Issuing.{IsGoing, go_full, go_issued, go_sync, is_going}
 use Rattle.m88_board.proofs.Telling.{change_told}
 use Rattle.m88_board.specs.Board.{BoardView}
 use Rattle.m88_board.specs.Kept.{AreReady, HasReadyPage}
@@ -105,10 +105,7 @@ planned_issues i effect b change planned issued =
     by_test (nat_lt most_pending (length b.pending + effect.accesses.count))
     (λ full. let waits = go_full i b effect going (ltb-true _ _ full) in absurd cc)
     (λ room. let few : length b.pending + effect.accesses.count ≤ most_pending = ltb-false _ _ room in
-    by_test (waits_for_empty i)
-    (λ empty. by_test (is_pending b.pending)
-    (λ some. let waits = go_sync i b effect going few empty some in absurd cc)
-    (λ none. change_told (choice_for (Some i) b) going.on.change change effect
-    (go_issued i b effect going few (none_to_wait_for (is_pending b.pending) (waits_for_empty i) none)) going.on.same issued))
-    (λ other. change_told (choice_for (Some i) b) going.on.change change effect
-    (go_issued i b effect going few (no_trap (is_pending b.pending) (waits_for_empty i) other)) going.on.same issued))
+    by_test (is_pending b.pending && waits_for_empty i)
+    (λ waits. let held = go_sync i b effect going few waits in absurd cc)
+    (λ goes. change_told (choice_for (Some i) b) going.on.change change effect (go_issued i b effect going few goes)
+    going.on.same issued))

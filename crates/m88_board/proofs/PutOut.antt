@@ -24,8 +24,7 @@ pub said_and_done : (fault : Record) (byte : ℕ) (b : BoardView) (slots : Point
     Did (serves byte) fault b (happened.Served byte) (record b {
       slots = slots;
       control = control;
-      out = out;
-      retired = b.retired + 1;
+      book = record b.book { retired = b.retired + 1; out = out };
     })
 said_and_done fault byte b slots control out next valid is on psr joined =
     let behind : next_of b.slots ≡ next = ap (λ (v : Bool). if v then b.slots.fip.addr else after_bytes b.slots.fip.addr 4) valid ∙ sym is in
@@ -34,8 +33,7 @@ said_and_done fault byte b slots control out next valid is on psr joined =
       does = subst (λ (xs : List ℕ). Does (serves byte) fault b (record b {
         slots = slots;
         control = control;
-        out = xs;
-        retired = b.retired + 1;
+        book = record b.book { retired = b.retired + 1; out = xs };
       })) (sym joined)
           (put_out fault byte b slots control
           (subst (λ n. IsAdvanced b.slots slots n (after_bytes n 4) false) (sym behind) on)

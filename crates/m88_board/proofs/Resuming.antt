@@ -42,20 +42,12 @@ pointers_in c = record { xip = slot_of c.saved.sxip; nip = slot_of c.saved.snip;
 -- a board that is resumed from a context, by its registers and its control registers
 abbrev pub resumed_board : Context → Registers → ControlRegisters → BoardView
 resumed_board c file control = record {
-  limit = c.book.limit;
-  named = c.book.absent;
   slots = pointers_in c;
   pending = [];
   file = file;
   memory = c.memory;
   control = control;
-  out = c.book.out;
-  retired = c.book.retired;
-  done = c.book.done;
-  events = c.book.events;
-  answers = c.book.answers;
-  ended = c.book.end;
-  records = c.book.records;
+  book = c.book;
   begun = false;
 }
 
@@ -295,38 +287,22 @@ kept_resumed p named m c file control stands are =
 
 -- a board whose parts come from a context
 pub record ComesFrom (c : Context) (b : BoardView) : Type 0 where
-  pub limit : b.limit ≡ c.book.limit
-  pub named : b.named ≡ c.book.absent
   pub slots : b.slots ≡ pointers_in c
   pub pending : b.pending ≡ []
   pub memory : b.memory ≡ c.memory
-  pub out : b.out ≡ c.book.out
-  pub retired : b.retired ≡ c.book.retired
-  pub done : b.done ≡ c.book.done
-  pub events : b.events ≡ c.book.events
-  pub answers : b.answers ≡ c.book.answers
-  pub ended : b.ended ≡ c.book.end
-  pub records : b.records ≡ c.book.records
+  pub book : b.book ≡ c.book
   pub begun : b.begun ≡ false
   pub are : AreResumed c b.file b.control
 
 -- is resumed from it
 same_board : (c : Context) (b : BoardView) → ComesFrom c b → b ≡ resumed_board c b.file b.control
 same_board c b from = λ i. record {
-  limit = from.limit i;
-  named = from.named i;
   slots = from.slots i;
   pending = from.pending i;
   file = b.file;
   memory = from.memory i;
   control = b.control;
-  out = from.out i;
-  retired = from.retired i;
-  done = from.done i;
-  events = from.events i;
-  answers = from.answers i;
-  ended = from.ended i;
-  records = from.records i;
+  book = from.book i;
   begun = from.begun i;
 }
 
@@ -356,17 +332,7 @@ words_from c b from =
     λ i. record {
       saved = record { regs = from.are.numbers i; epsr = status i; sxip = xip i; snip = nip i; sfip = fip i };
       memory = from.memory i;
-      book = record {
-        absent = from.named i;
-        limit = from.limit i;
-        retired = from.retired i;
-        done = from.done i;
-        events = from.events i;
-        answers = from.answers i;
-        end = from.ended i;
-        out = from.out i;
-        records = from.records i;
-      };
+      book = from.book i;
     }
 
 -- r0 is 0

@@ -9,7 +9,6 @@ use Rattle.m88_base.specs.declared.absent.Absent.{Absent}
 use Rattle.m88_ctrl.specs.ControlRegisters.{ControlRegisters, at_start, carry_of, mxm_of}
 use Rattle.m88_event.proofs.Laws.{opens_with}
 use Rattle.m88_event.specs.Local.{Local, local_at}
-use Rattle.m88_event.specs.declared.record.Record.{Record}
 use Rattle.m88_isa.specs.declared.planned.Access.{Access}
 use Rattle.m88_event.specs.Shadow.{status_of}
 use Rattle.m88_event.specs.Timeline.{opening_moment, xip_at}
@@ -23,6 +22,8 @@ use Rattle.m88_mem.specs.DataBus.{MemoryView, absent_of, bus_of, image_bus, imag
 use Rattle.m88_scoreboard.specs.Registers.{Registers, none_waits, waiting_of}
 use Rattle.m88_board.proofs.Waiting.{none_wait_for_none}
 use Rattle.m88_board.specs.Board.{BoardView, completed_of, local_of}
+use Rattle.m88_board.specs.Inside.Books.{new_book}
+use Rattle.m88_board.specs.declared.book.Book.{Book}
 use Rattle.m88_isa.specs.ImageProgram.{IsProgramOf}
 use Rattle.m88_board.specs.Kept.{HasReadyPage, IsKept, lacks_word, most_retired}
 use Rattle.m88_board.specs.Moves.{IsAt}
@@ -30,51 +31,34 @@ use Rattle.m88_board.specs.Moves.{IsAt}
 -- such a board by its parts
 abbrev pub starting : Bool → ℕ → Absent → Pointers → Registers → MemoryView → BoardView
 starting mxm limit named slots file memory = record {
-  limit = limit;
-  named = named;
   slots = slots;
   pending = [];
   file = file;
   memory = memory;
   control = at_start mxm;
-  out = [];
-  retired = 0;
-  done = 0;
-  events = 0;
-  answers = 0;
-  ended = None;
-  records = [];
+  book = new_book named limit;
   begun = false;
 }
 
 -- what holds of it holds of any board whose parts are these
 pub made : (P : BoardView → Type 0) (mxm : Bool) (limit : ℕ) (chosen named : Absent) (slots seen : Pointers) (pending : List Access) (file : Registers)
-    (memory : MemoryView) (control : ControlRegisters) (out : List ℕ) (records : List Record) →
+    (memory : MemoryView) (control : ControlRegisters) (book : Book) →
     chosen ≡ named →
     slots ≡ seen →
     pending ≡ [] →
     control ≡ at_start mxm →
-    out ≡ [] →
-    records ≡ [] →
+    book ≡ new_book chosen limit →
     P (starting mxm limit named seen file memory) →
     P (record {
-      limit = limit;
-      named = chosen;
       slots = slots;
       pending = pending;
       file = file;
       memory = memory;
       control = control;
-      out = out;
-      retired = 0;
-      done = 0;
-      events = 0;
-      answers = 0;
-      ended = None;
-      records = records;
+      book = book;
       begun = false;
     })
-made P mxm limit chosen named slots seen pending file memory control out records n s p c o r known = rw (n, s, p, c, o, r) known
+made P mxm limit chosen named slots seen pending file memory control book n s p c b known = rw (b, n, s, p, c) known
 
 -- the status at first
 status_at : (mxm : Bool) → (at_start mxm).psr ≡ status_of (carry_of (at_start mxm)) (mxm_of (at_start mxm))

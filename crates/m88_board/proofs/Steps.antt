@@ -76,8 +76,7 @@ pub replied : (fault : Record) (b : BoardView) (pending : List Access) (file : R
       pending = pending;
       file = file;
       memory = memory;
-      done = b.done + 1;
-      answers = b.answers + 1;
+      book = record b.book { done = b.done + 1; answers = b.answers + 1 };
     })
 unfolding local_of completed_of
 replied fault b pending file memory left cells bus absent image = record {
@@ -123,8 +122,7 @@ pub faulted : (fault : Record) (b : BoardView) (file : Registers) (memory : Memo
       file = file;
       memory = memory;
       control = control;
-      done = done;
-      records = b.records ++ fault ∷ [];
+      book = record b.book { done = done; records = b.records ++ fault ∷ [] };
     })
 unfolding local_of completed_of after_accesses
 faulted fault b file memory control slots done cells bus absent image carry mxm same count = record {
@@ -191,7 +189,7 @@ pub finished : (fault : Record) (stop : Stop) (b : BoardView) (control : Control
     end ≡ end_by stop →
     carry_of control ≡ carry_of b.control →
     mxm_of control ≡ mxm_of b.control →
-    Does (finishes stop) fault b (record b { control = control; ended = Some end })
+    Does (finishes stop) fault b (record b { control = control; book = record b.book { end = Some end } })
 unfolding local_of completed_of
 finished fault stop b control end by carry mxm = record {
   moved = λ i. record {
@@ -227,8 +225,7 @@ pub put_out : (fault : Record) (byte : ℕ) (b : BoardView) (slots : Pointers) (
     Does (serves byte) fault b (record b {
       slots = slots;
       control = control;
-      out = b.out ++ byte ∷ [];
-      retired = b.retired + 1;
+      book = record b.book { retired = b.retired + 1; out = b.out ++ byte ∷ [] };
     })
 unfolding local_of completed_of after_turn
 put_out fault byte b slots control on carry mxm = record {
@@ -274,7 +271,7 @@ pub issued : (fault : Record) (change : Change) (b : BoardView) (slots : Pointer
       file = file;
       memory = memory;
       control = control;
-      retired = b.retired + 1;
+      book = record b.book { retired = b.retired + 1 };
     })
 unfolding local_of completed_of after_turn
 issued fault change b slots pending file memory control on joined cells bus absent image carry mxm =

@@ -36,7 +36,7 @@ stops_so p b stop comes = ends_turn _ _ _ _ stop comes
 -- the state reached is the same where the carry is
 same_state : (b : BoardView) (control : ControlRegisters) (end : End) → carry_of control ≡ carry_of b.control →
     mxm_of control ≡ mxm_of b.control →
-    completed_of (record b { control = control; ended = Some end }) ≡ completed_of b
+    completed_of (record b { control = control; book = record b.book { end = Some end } }) ≡ completed_of b
 unfolding completed_of
 same_state b control end carry mxm = λ i. record {
   regs = (after_accesses b.pending (cells_in b.file b.memory)).regs;
@@ -50,7 +50,7 @@ same_state b control end carry mxm = λ i. record {
 
 -- the program ends
 pub ends_now : (b : BoardView) (control : ControlRegisters) (end : End) → ComesToEnd end b →
-    carry_of control ≡ carry_of b.control → mxm_of control ≡ mxm_of b.control → EndsSo (record b { control = control; ended = Some end }) end
+    carry_of control ≡ carry_of b.control → mxm_of control ≡ mxm_of b.control → EndsSo (record b { control = control; book = record b.book { end = Some end } }) end
 ends_now b control end comes carry mxm = λ p of.
     ap (λ (c : Completed). end_of_turn (turn_by p c)) (same_state b control end carry mxm)
     ∙ stops_so p b comes.stop (comes.comes p of)

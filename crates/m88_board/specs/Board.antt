@@ -1,11 +1,8 @@
 -- A board as contracts see it, and what it looks like from outside: the state that its pending transactions lead to is
 -- computed from them.
-use Rattle.std.specs.Prelude.{ℕ, Bool, not, List, Option, ◌==◌, ◌||◌, is_some, if◌then◌else◌}
-use Rattle.m88_base.specs.declared.absent.Absent.{Absent}
+use Rattle.std.specs.Prelude.{ℕ, Bool, not, List, ◌+◌, ◌==◌, ◌||◌, is_some, if◌then◌else◌}
 use Rattle.m88_ctrl.specs.ControlRegisters.{ControlRegisters, carry_of, mxm_of}
 use Rattle.m88_event.specs.Local.{Local}
-use Rattle.m88_event.specs.declared.happened.End.{End}
-use Rattle.m88_event.specs.declared.record.Record.{Record}
 use Rattle.m88_isa.specs.Address.{after_bytes}
 use Rattle.m88_isa.specs.Bus.{Cells, after_accesses}
 use Rattle.m88_isa.specs.History.{Completed}
@@ -13,27 +10,25 @@ use Rattle.m88_isa.specs.declared.planned.Access.{Access}
 use Rattle.m88_iunit.specs.Pointers.{Pointers}
 use Rattle.m88_mem.specs.DataBus.{MemoryView, absent_of, bus_of}
 use Rattle.m88_scoreboard.specs.Registers.{Registers}
+use Rattle.m88_board.specs.declared.book.Book.{Book}
 
--- the most instructions that it may retire, the pages that were absent at first, its parts, the output, the counts of
--- instructions retired, transactions answered or finished, events, and transactions answered with data, how the program
--- ended, if it has, the records of the data faults, and whether it began from parts and not before a program's first
--- instruction
+-- its parts, the book of the program that it runs, and whether it began from parts and not before a program's first
+-- instruction. The book has the most instructions that the program may retire and the pages that were absent at first;
+-- the counts of instructions retired, of transactions answered or finished, of events, and of transactions answered
+-- with data; how the program ended, if it has; the output; and the records of the data faults.
 pub record BoardView : Type 0 where
-  pub limit : ℕ
-  pub named : Absent
   pub slots : Pointers
   pub pending : List Access
   pub file : Registers
   pub memory : MemoryView
   pub control : ControlRegisters
-  pub out : List ℕ
-  pub retired : ℕ
-  pub done : ℕ
-  pub events : ℕ
-  pub answers : ℕ
-  pub ended : Option End
-  pub records : List Record
+  pub book : Book
+  pub open book use {limit, absent as named, retired, done, events, answers, end as ended, out, records}
   pub begun : Bool
+
+-- one event more is counted
+abbrev pub event_counted : BoardView → BoardView
+event_counted b = record b { book = record b.book { events = b.events + 1 } }
 
 -- the registers and the words of a register file and a memory
 abbrev pub cells_in : Registers → MemoryView → Cells

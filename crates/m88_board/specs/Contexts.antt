@@ -16,7 +16,7 @@ use Rattle.m88_mem.specs.Marks.{absent_in}
 use Rattle.m88_board.specs.Board.{BoardView}
 use Rattle.m88_board.specs.Kept.{epsr_of, most_events, most_retired}
 use Rattle.m88_board.specs.Shown.{pointer_frame}
-use Rattle.m88_board.specs.declared.context.Book.{Book}
+use Rattle.m88_board.specs.declared.book.Book.{Book}
 use Rattle.m88_board.specs.declared.context.Context.{Context}
 use Rattle.m88_board.specs.declared.context.Saved.{Saved}
 
@@ -78,23 +78,9 @@ saved_of b = record {
   sfip = slot_word b.slots.fip;
 }
 
--- the book of that program
-abbrev pub book_of : BoardView → Book
-book_of b = record {
-  absent = b.named;
-  limit = b.limit;
-  retired = b.retired;
-  done = b.done;
-  events = b.events;
-  answers = b.answers;
-  end = b.ended;
-  out = b.out;
-  records = b.records;
-}
-
 -- the context of that program
 abbrev pub context_of : BoardView → Context
-context_of b = record { saved = saved_of b; memory = b.memory; book = book_of b }
+context_of b = record { saved = saved_of b; memory = b.memory; book = b.book }
 
 -- a board goes on with the run that a context keeps: limit, choice of absent pages, image, MXM and the count of events
 -- are the same

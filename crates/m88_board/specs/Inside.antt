@@ -5,3 +5,4 @@ pub mod Briefly
 pub mod Events
 pub mod Accesses
 pub mod Routes
+pub mod Books

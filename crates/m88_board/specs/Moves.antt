@@ -14,7 +14,7 @@ use Rattle.m88_event.specs.declared.letter.Letter.{Letter}
 use Rattle.m88_event.specs.declared.letter.Letter.TheVariants.{Answer, Evict}
 use Rattle.m88_mem.specs.DataBus.{absent_of, bus_of, ready_of}
 use Rattle.m88_isa.specs.Machine.{Program}
-use Rattle.m88_board.specs.Board.{BoardView, local_of}
+use Rattle.m88_board.specs.Board.{BoardView, event_counted, local_of}
 use Rattle.m88_board.specs.Kept.{IsKept}
 use Rattle.m88_board.specs.Shown.{Leaves}
 use Rattle.m88_board.specs.Glances.{Saw, glance_at, glances_along}
@@ -58,7 +58,7 @@ pub record IsAlong (p : Program) (named : ℕ → Bool) (moments : ℕ → Momen
 
 -- every page is absent, and nothing else changed but the count of events: the words and the pages that are ready stay
 pub record IsEvicted (old new : BoardView) : Type 0 where
-  pub rest : new ≡ record old { memory = new.memory; events = new.events }
+  pub rest : new ≡ record old { memory = new.memory; book = record old.book { events = new.events } }
   pub image : new.memory.image ≡ old.memory.image
   pub bus : bus_of new.memory ≡ bus_of old.memory
   pub ready : ready_of new.memory ≡ ready_of old.memory
@@ -91,7 +91,7 @@ pub record Happens (letter : Letter) (old : BoardView) (happened : Happened) (ne
   pub ended : new.ended ≡ end_after happened old.ended
   pub counted : new.events ≡ old.events + 1
   pub same : IsSameRun old new
-  pub still : IsStill happened → new ≡ record old { events = old.events + 1 }
+  pub still : IsStill happened → new ≡ event_counted old
   pub shorter : letter ≡ Answer → length new.pending ≤ length old.pending - 1
   pub leaves : Leaves happened old new
   pub kept : IsKept new

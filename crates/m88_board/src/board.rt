@@ -16,8 +16,7 @@ ghost use Rattle.m88_mem.specs.Lines.{HasInvolved};
 ghost use Rattle.m88_mem.specs.Marks.{NamesPages, absent_in};
 ghost use Rattle.m88_isa.specs.Held.{busy_register};
 ghost use Rattle.m88_isa.specs.Machine.{Program, by_vector, trapped};
-ghost use Rattle.m88_isa.specs.Memory.{recorded};
-ghost use Rattle.m88_board.specs.Board.{is_idle_board, local_of, pc_of};
+ghost use Rattle.m88_board.specs.Board.{event_counted, is_idle_board, local_of, pc_of};
 ghost use Rattle.m88_isa.specs.ImageProgram.{IsProgramOf};
 ghost use Rattle.std.specs.Int.{bit_at};
 ghost use Rattle.m88_iunit.specs.Pointers.{resumed};
@@ -25,9 +24,10 @@ ghost use Rattle.m88_board.specs.Kept.{IsKept, epsr_of, most_events, most_retire
 ghost use Rattle.m88_board.specs.Moves.{IsAt};
 ghost use Rattle.m88_board.specs.Shown.{IsRecordOf};
 ghost use Rattle.m88_board.specs.Inside.Events.{Brings, BringsOrStays, EvictsAll};
-ghost use Rattle.m88_board.specs.Inside.Turns.{CanMakeAccesses, ComesToEnd, IsDue, IsFetched, IsIssuedWith, IssueComesTo, stopping};
+ghost use Rattle.m88_board.specs.Inside.Turns.{ComesToEnd, IsDue, IsFetched, IssueComesTo, stopping};
 
-use crate::accesses::{complete, prepare, put_in, write};
+use crate::accesses::complete;
+use crate::book::Book;
 use crate::brief::Brief;
 use crate::serving::{enter, serve_all, visit};
 use crate::slots::{advance, lacks_behind, lacks_word};
@@ -35,7 +35,7 @@ use m88_base::{Absent, Image, NoMemory, Reg};
 use m88_ctrl::{Control, cr};
 use m88_dunit::DataUnit;
 use m88_event::{End, Record, Why};
-use m88_isa::{Access, Effect};
+use m88_isa::Access;
 use m88_iunit::InstrUnit;
 use m88_mem::{Line, Memory, PAGE_BYTES};
 use m88_monitor::{Service, service};
@@ -53,20 +53,12 @@ mod run;
 /// The board. It holds its image once, in its memory.
 #[derive(Debug, Drop)]
 pub struct Board {
-    limit: u32,
-    absent: Absent,
     iunit: InstrUnit,
     dunit: DataUnit,
     regs: RegFile,
     memory: Memory,
     ctrl: Control,
-    out: Vec<u8>,
-    retired: u32,
-    done: u32,
-    events: u64,
-    answers: u32,
-    ended: Option<End>,
-    records: Vec<Record>,
+    book: Book,
     // from parts, and not before a program's first instruction
     begun: bool,
 }
@@ -78,38 +70,22 @@ impl Model for Board {
     ghost Value = { BoardView };
 
     ghost view = { λ b. record {
-      limit = b.limit;
-      named = b.absent;
       slots = b.iunit;
       pending = b.dunit;
       file = b.regs;
       memory = b.memory;
       control = b.ctrl;
-      out = b.out.items;
-      retired = b.retired;
-      done = b.done;
-      events = b.events;
-      answers = b.answers;
-      ended = b.ended;
-      records = b.records.items;
+      book = b.book;
       begun = b.begun;
     } };
 
     ghost invariant = { λ b. IsKept (record {
-      limit = b.limit;
-      named = b.absent;
       slots = b.iunit;
       pending = b.dunit;
       file = b.regs;
       memory = b.memory;
       control = b.ctrl;
-      out = b.out.items;
-      retired = b.retired;
-      done = b.done;
-      events = b.events;
-      answers = b.answers;
-      ended = b.ended;
-      records = b.records.items;
+      book = b.book;
       begun = b.begun;
     }) };
 }
@@ -145,20 +121,12 @@ impl Board {
         let e0 = lacks_word(&memory, entry);
         let e1 = lacks_word(&memory, entry.wrapping_add(4));
         Ok(Board {
-            limit,
-            absent: absent.copy(),
             iunit: InstrUnit::new(entry, e0, e1),
             dunit: DataUnit::new(),
             regs: RegFile::new(),
             memory,
             ctrl: Control::new(mxm),
-            out: Vec::new(alloc),
-            retired: 0,
-            done: 0,
-            events: 0,
-            answers: 0,
-            ended: None,
-            records: Vec::new(alloc),
+            book: Book::new(alloc, absent.copy(), limit),
             begun: false,
         })
     }
@@ -167,7 +135,7 @@ impl Board {
     fn is_idle(&self) -> bool
         ensures { result ≡ is_idle_board self.now }
     {
-        self.ended.is_some() || self.retired == self.limit
+        self.book.end.is_some() || self.book.retired == self.book.limit
     }
 
     /// Passes the instruction behind a taken branch over.
@@ -196,7 +164,7 @@ impl Board {
     {
         let (sxip, snip, sfip) = self.iunit.shadow();
         Record {
-            event: self.events + 1,
+            event: self.book.events + 1,
             epsr: self.status(),
             sxip,
             snip,
@@ -210,7 +178,7 @@ impl Board {
     fn status(&self) -> u32
         ensures { result ≡ epsr_of self.now }
     {
-        let number = if self.ended.is_some() {
+        let number = if self.book.end.is_some() {
             cr::EPSR
         } else {
             cr::PSR
@@ -228,8 +196,8 @@ impl Board {
         ensures { Brings LetterValue.Answer self.old BriefValue.Answered self.new }
     {
         complete(oldest, &mut self.dunit, &mut self.memory, &mut self.regs);
-        self.done += 1;
-        self.answers += 1;
+        self.book.done += 1;
+        self.book.answers += 1;
     }
 
     /// The oldest transaction meets an absent page: its record stays, and the monitor finishes all that are
@@ -239,7 +207,7 @@ impl Board {
         ensures { BringsOrStays LetterValue.Answer self.old result self.new }
     {
         let fault = self.pipe();
-        self.records.push(fault).or(Err(NoMemory))?;
+        self.book.records.push(fault)?;
         let (done, restart) = serve_all(
             fault,
             &mut self.dunit,
@@ -248,7 +216,7 @@ impl Board {
             &mut self.memory,
         );
         self.iunit.resume(restart.snip, restart.sfip);
-        self.done += u32::from(done);
+        self.book.done += u32::from(done);
         Ok(Brief::Faulted)
     }
 
@@ -298,7 +266,7 @@ impl Board {
         ensures { Brings LetterValue.Issue self.old result self.new }
     {
         enter(&mut self.ctrl, &self.iunit, vector);
-        self.ended = Some(end);
+        self.book.end = Some(end);
         Brief::Ended
     }
 
@@ -308,7 +276,7 @@ impl Board {
         requires comes { IssueComesTo (serves byte) self.old }
         ensures { BringsOrStays LetterValue.Issue self.old result self.new }
     {
-        self.out.push(byte).or(Err(NoMemory))?;
+        self.book.out.push(byte)?;
         let next = self.iunit.following().addr;
         advance(
             &mut self.iunit,
@@ -316,41 +284,9 @@ impl Board {
             (next, next.wrapping_add(4)),
             false,
         );
-        self.retired += 1;
+        self.book.retired += 1;
         visit(&mut self.ctrl, &self.iunit);
         Ok(Brief::Served(byte))
-    }
-
-    /// Issues the next instruction.
-    fn go(&mut self, effect: &Effect) -> Result<(), NoMemory>
-        requires next { IsFetched self.old }
-        requires issued { IsIssuedWith effect.now self.old }
-        requires made { CanMakeAccesses effect.now.accesses self.old }
-        ensures ok { OnOk result (Brings LetterValue.Issue self.old BriefValue.Issued self.new) }
-        ensures err { OnErr result (self.new ≡ self.old) }
-    {
-        prepare(&mut self.memory, &effect.accesses)?;
-        write(&mut self.regs, effect.reg);
-        put_in(&mut self.dunit, &mut self.regs, &effect.accesses);
-        self.ctrl.set_carry(effect.carry);
-        advance(&mut self.iunit, &self.memory, effect.after, effect.bubble);
-        self.retired += 1;
-        Ok(())
-    }
-
-    /// Issues the next instruction, which makes no access.
-    // Inlined, so that no changes are put together in memory.
-    #[inline(always)]
-    fn go_on(&mut self, effect: &Effect)
-        requires next { IsFetched self.old }
-        requires issued { IsIssuedWith effect.now self.old }
-        requires alone { effect.now.accesses ≡ recorded [] }
-        ensures { Brings LetterValue.Issue self.old BriefValue.Issued self.new }
-    {
-        write(&mut self.regs, effect.reg);
-        self.ctrl.set_carry(effect.carry);
-        advance(&mut self.iunit, &self.memory, effect.after, effect.bubble);
-        self.retired += 1;
     }
 
     /// The next word can't be fetched or is no instruction, or the next instruction raises: the program ends by
@@ -403,9 +339,9 @@ impl Board {
     #[tactic(auto, unfolding(crate::specs::Board::completed_of))]
     fn count(&mut self)
         requires { self.old.events < most_events }
-        ensures counted { self.new ≡ record self.old { events = self.old.events + 1 } }
+        ensures counted { self.new ≡ event_counted self.old }
         ensures kept { IsKept self.new }
     {
-        self.events += 1;
+        self.book.events += 1;
     }
 }

@@ -11,8 +11,9 @@ ghost use Rattle.m88_board.specs.Contexts.{StandsFor, mxm_in};
 ghost use Rattle.m88_board.specs.Kept.{most_retired};
 
 use crate::board::Board;
-use m88_base::{Absent, Image, Listed, NoMemory};
-use m88_event::{End, Outcome, Record};
+use crate::book::Book;
+use m88_base::{Absent, Image, NoMemory};
+use m88_event::Outcome;
 use m88_mem::Memory;
 use std::alloc::Global;
 use thiserror::Error;
@@ -30,29 +31,6 @@ pub struct Saved {
     pub snip: u32,
     /// The instruction behind that one, in the same form.
     pub sfip: u32,
-}
-
-/// What is kept of its run beside these words and its memory.
-#[derive(Drop, Debug)]
-pub struct Book {
-    /// The pages that were absent at first.
-    pub absent: Absent,
-    /// The most instructions that it may retire, at most 1,000,000.
-    pub limit: u32,
-    /// The instructions that were retired.
-    pub retired: u32,
-    /// The transactions that were answered or finished.
-    pub done: u32,
-    /// The events so far, at most 2^63.
-    pub events: u64,
-    /// The transactions that were answered with data.
-    pub answers: u32,
-    /// How the program ended, if it has.
-    pub end: Option<End>,
-    /// The output, a byte for each output trap.
-    pub out: Listed<u8>,
-    /// A record for each data fault, in order.
-    pub records: Listed<Record>,
 }
 
 /// A program that isn't running, with nothing pending. It holds its image once, in its memory.
@@ -105,20 +83,7 @@ impl Context {
             → o ≡ outcome_at p m) }
     {
         let saved = self.saved;
-        let book = self.book;
-        let out = book.out.into_items();
-        let changed = self.memory.changed(*out.allocator())?;
-        let regs = saved.regs;
-        Ok(Outcome {
-            end: book.end.unwrap_or(End::Limit),
-            retired: book.retired,
-            regs,
-            carry: (saved.epsr >> 28) % 2 == 1,
-            out: Listed::new(out),
-            changed: Listed::new(changed),
-            events: book.events,
-            answers: book.answers,
-            records: book.records,
-        })
+        let carry = (saved.epsr >> 28) % 2 == 1;
+        self.book.into_outcome(saved.regs, carry, &self.memory)
     }
 }

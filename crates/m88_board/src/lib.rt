@@ -11,6 +11,7 @@ mod board;
 mod parts;
 
 // programs that aren't running
+mod book;
 mod context;
 
 // along the letters of a run
@@ -32,7 +33,8 @@ mod mem_watch;
 mod watch;
 
 pub use board::Board;
-pub use context::{Book, Context, NotEmpty, Saved};
+pub use book::Book;
+pub use context::{Context, NotEmpty, Saved};
 pub use glance::Glance;
 pub use m88_event::{End, Happened, Letter, Outcome, Record, Schedule, Why};
 pub use mem_watch::MemWatch;

@@ -8,10 +8,8 @@ ghost use Rattle.m88_board.specs.Shown.{pointer_frame};
 
 use crate::context::Saved;
 use crate::serving::enter;
-use m88_base::Listed;
 use m88_ctrl::{Control, cr};
 use m88_iunit::InstrUnit;
-use std::mem;
 
 /// The vector of an external interrupt.
 const INTERRUPT: u16 = 1;
@@ -73,15 +71,4 @@ pub(crate) fn come_back(ctrl: &mut Control, saved: &Saved) -> InstrUnit
     ctrl.stcr(cr::SFIP, saved.sfip);
     let restart = ctrl.rte();
     InstrUnit::from_words(saved.sxip, restart.snip, restart.sfip)
-}
-
-/// The items of a vector and of a list change places. It takes no memory.
-pub(crate) fn exchange<T: Drop>(items: &mut Vec<T>, listed: &mut Listed<T>)
-    ensures items { items.new.items ≡ listed.old }
-    ensures listed { listed.new ≡ items.old.items }
-{
-    let alloc = *items.allocator();
-    let theirs = mem::replace(listed, Listed::new(Vec::new(alloc)));
-    let own = mem::replace(items, theirs.into_items());
-    *listed = Listed::new(own);
 }

@@ -70,11 +70,6 @@ pub record TellsInstruction (old : BoardView) (before : Told) (result : Result B
       → IsWordOf (four_bytes (byte_at old.memory.image) (pc_of old.slots)) told.word)
   pub changes : TellsPlan old before told
 
--- the event is made and counted, or memory ran out and all is as before
-abbrev pub HappensOrStays : Letter → BoardView → Result Brief NoMemory → BoardView → Type 0
-HappensOrStays letter old (Ok brief) new = Happens letter old (happened_of brief new) new
-HappensOrStays letter old (Err e) new = new ≡ old
-
 -- an event of a board that is watched, which is shown behind it
 pub record HappensShown (letter : Letter) (old : BoardView) (before after : Option (List Glance)) (brief : Brief)
     (new : BoardView) : Type 0 where
@@ -82,7 +77,7 @@ pub record HappensShown (letter : Letter) (old : BoardView) (before after : Opti
   pub ok : (p : Program) (named : ℕ → Bool) (m : Moment) → IsAt p named m old
       → IsStep p named letter m before after old new
 
--- and that, or memory ran out and all is as before
+-- the event is made, counted and shown, or memory ran out and all is as before
 abbrev pub ShownOrStays : Letter → BoardView → Option (List Glance) → Option (List Glance) → Result Brief NoMemory →
     BoardView → Type 0
 ShownOrStays letter old before after (Ok brief) new = HappensShown letter old before after brief new

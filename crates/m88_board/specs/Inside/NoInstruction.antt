@@ -8,6 +8,7 @@ use Rattle.m88_isa.specs.declared.instr.Instr.{Instr}
 use Rattle.m88_mem.specs.Lines.{IsLine}
 use Rattle.m88_mem.specs.declared.lines.Line.{Line}
 use Rattle.m88_board.specs.Board.{BoardView, pc_of}
+use Rattle.m88_board.specs.Inside.Turns.{IsDue}
 use Rattle.m88_board.specs.Told.{IsWordOf}
 
 -- an image has no instruction at an address, and so a vector is raised: a byte of the word is lacking, or the word is
@@ -23,8 +24,9 @@ abbrev pub IsFoundAt : ProgramImage → ℕ → Result Line ℕ → Type 0
 IsFoundAt image addr (Ok line) = (line.addr ≡ addr) × IsLine image line
 IsFoundAt image addr (Err vector) = HasNoInstruction image addr vector
 
--- and at that of the next one, a multiple of 4; an instruction that is found was fetched
+-- what is found at the address of the next instruction, a multiple of 4; an instruction that is found was fetched
 pub record IsFoundNext (found : Result Line ℕ) (b : BoardView) : Type 0 where
+  pub due : IsDue b
   pub aligned : pc_of b.slots % 4 ≡ 0
   pub found_there : IsFoundAt b.memory.image (pc_of b.slots) found
   pub unmarked : OnOk found (b.slots.nip.e ≡ false)

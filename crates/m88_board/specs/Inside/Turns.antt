@@ -1,23 +1,21 @@
 -- What the next instruction comes to in its turn.
 use Rattle.std.specs.Int.{bit_at}
-use Rattle.std.specs.Prelude.{ℕ, Bool, not, true, false, List, [], IfSome, None, Option, Some, ◌≡◌, ◌<◌, ◌≤◌, ◌+◌, ◌++◌, length, if◌then◌else◌}
+use Rattle.std.specs.Prelude.{ℕ, Bool, not, true, false, List, [], IfSome, None, Option, Some, ◌≡◌, ◌<◌, if◌then◌else◌}
 use Rattle.m88_base.specs.Reg.{number_of}
 use Rattle.m88_ctrl.specs.ControlRegisters.{carry_of}
 use Rattle.m88_base.specs.Pages.{page_number}
-use Rattle.m88_event.specs.Choice.{Choice, end_by, finishes, holds, issues, next_choice}
+use Rattle.m88_event.specs.Choice.{Choice, end_by, finishes, holds, next_choice}
 use Rattle.m88_event.specs.Local.{choice_by}
 use Rattle.m88_event.specs.Shadow.{retired_pointer}
 use Rattle.m88_event.specs.declared.happened.End.{End}
 use Rattle.m88_event.specs.declared.letter.Letter.TheVariants.{Issue}
-use Rattle.m88_dunit.specs.Pending.{CanIssue}
-use Rattle.m88_isa.specs.Bus.{LoadApart, listed, waits_for}
 use Rattle.m88_isa.specs.Flow.{FlowFits}
-use Rattle.m88_isa.specs.Held.{busy_register, held, is_pending, most_pending, sync}
+use Rattle.m88_isa.specs.Held.{busy_register, held, is_pending, sync}
 use Rattle.m88_isa.specs.Instr.{IsValid}
 use Rattle.m88_isa.specs.Memory.{AreWordAccesses}
 use Rattle.m88_isa.specs.Operands.{access_count_of, writes_of}
 use Rattle.m88_isa.specs.History.{Completed}
-use Rattle.m88_isa.specs.Effect.{Change, FlowsToWords, IfGo, MakesAccesses, Meaning, RaisesListed, TrapsForUser, WritesWithin, meaning_of, plan_for, plan_of_outline, recorded_change}
+use Rattle.m88_isa.specs.Effect.{FlowsToWords, IfGo, MakesAccesses, Meaning, RaisesListed, TrapsForUser, WritesWithin, meaning_of, plan_for, plan_of_outline}
 use Rattle.m88_isa.specs.ImageProgram.{IsProgramOf}
 use Rattle.m88_isa.specs.Machine.{Program, Stop, Turn, executed}
 use Rattle.m88_isa.specs.declared.instr.Instr.{Instr}
@@ -92,23 +90,6 @@ StoreOnOnePage a =
 -- and so do those of a plan that goes on
 abbrev pub PlansOnePage : Plan → Type 0
 PlansOnePage plan = IfGo plan (λ changes. StoreOnOnePage changes.accesses)
-
--- accesses that a board can make next: the data unit takes them and has room, no register is loaded twice, and a store
--- stays on one page
-pub record CanMakeAccesses (accesses : Accesses) (b : BoardView) : Type 0 where
-  pub can : CanIssue accesses
-  pub room : length b.pending + accesses.count ≤ most_pending
-  pub apart : LoadApart (b.pending ++ listed accesses)
-  pub page : StoreOnOnePage accesses
-
--- the next instruction is issued with these changes: they go on to words, and the register that is written doesn't wait
-pub record IsIssuedWith (effect : Effect) (b : BoardView) : Type 0 where
-  pub flow : FlowFits effect.after effect.bubble
-  pub free : IfSome effect.reg (λ write. waits_for b.pending (number_of write.0) ≡ false)
-  pub change : Change
-  pub same : effect ≡ recorded_change change
-  pub few : length change.touches ≤ 2
-  pub comes : IssueComesTo (issues change) b
 
 -- the plan that an outline stands for, by what the parts of a board show
 abbrev pub planned_by : Outline → BoardView → Plan

@@ -8,9 +8,10 @@ ghost use Rattle.m88_board.specs.Board.{local_of};
 ghost use Rattle.m88_board.specs.Parts.{IsAtWord, MayBegin, begun_control, last_of, parts_of, seen_of_parts, xip_of};
 
 use super::Board;
+use crate::book::Book;
 use crate::parts::Parts;
 use crate::slots::lacks_word;
-use m88_base::{Absent, Listed, Slot};
+use m88_base::{Absent, Slot};
 use m88_ctrl::Control;
 use m88_dunit::DataUnit;
 use m88_iunit::InstrUnit;
@@ -32,6 +33,7 @@ impl Board {
         let nip = self.iunit.candidate();
         let fip = self.iunit.following();
         let regs = self.regs.values();
+        let book = self.book;
         Parts {
             memory: self.memory,
             regs,
@@ -39,12 +41,12 @@ impl Board {
             pc: nip.addr,
             next: fip.addr,
             last: last_of(sxip, xip),
-            retired: self.retired,
-            done: self.done,
-            events: self.events,
-            answers: self.answers,
-            out: Listed::new(self.out),
-            records: Listed::new(self.records),
+            retired: book.retired,
+            done: book.done,
+            events: book.events,
+            answers: book.answers,
+            out: book.out,
+            records: book.records,
         }
     }
 
@@ -70,8 +72,6 @@ impl Board {
         let lacks_next = lacks_word(&parts.memory, parts.next);
         let xip = pointer_of(parts.last);
         Board {
-            limit,
-            absent: Absent::None,
             iunit: InstrUnit::at(
                 xip,
                 fetched(parts.pc, lacks),
@@ -81,13 +81,17 @@ impl Board {
             regs: RegFile::of(parts.regs),
             memory: parts.memory,
             ctrl,
-            out: parts.out.into_items(),
-            retired: parts.retired,
-            done: parts.done,
-            events: parts.events,
-            answers: parts.answers,
-            ended: None,
-            records: parts.records.into_items(),
+            book: Book {
+                absent: Absent::None,
+                limit,
+                retired: parts.retired,
+                done: parts.done,
+                events: parts.events,
+                answers: parts.answers,
+                end: None,
+                out: parts.out,
+                records: parts.records,
+            },
             begun: true,
         }
     }

@@ -13,9 +13,8 @@ ghost use Rattle.m88_board.specs.Kept.{IsKept};
 ghost use Rattle.m88_board.specs.Moves.{IsAt};
 
 use super::Board;
-use crate::context::{Book, Context, NotEmpty, Saved};
-use crate::sharing::{come_back, exchange, leave, saved_by};
-use m88_base::Listed;
+use crate::context::{Context, NotEmpty, Saved};
+use crate::sharing::{come_back, leave, saved_by};
 use m88_event::Record;
 use m88_scoreboard::RegFile;
 use std::mem;
@@ -71,22 +70,14 @@ impl Board {
         }
         let record = self.pipe();
         let resumed = other.saved;
-        leave(&mut self.ctrl, &self.iunit, self.ended.is_some());
+        leave(&mut self.ctrl, &self.iunit, self.book.end.is_some());
         let regs = self.regs.values();
         other.saved = saved_by(&self.ctrl, regs);
         self.iunit = come_back(&mut self.ctrl, &resumed);
         let regs = resumed.regs;
         self.regs = RegFile::of(regs);
         mem::swap(&mut self.memory, &mut other.memory);
-        mem::swap(&mut self.absent, &mut other.book.absent);
-        mem::swap(&mut self.limit, &mut other.book.limit);
-        mem::swap(&mut self.retired, &mut other.book.retired);
-        mem::swap(&mut self.done, &mut other.book.done);
-        mem::swap(&mut self.events, &mut other.book.events);
-        mem::swap(&mut self.answers, &mut other.book.answers);
-        mem::swap(&mut self.ended, &mut other.book.end);
-        exchange(&mut self.out, &mut other.book.out);
-        exchange(&mut self.records, &mut other.book.records);
+        mem::swap(&mut self.book, &mut other.book);
         Ok(record)
     }
 
@@ -110,17 +101,7 @@ impl Board {
                 sfip,
             },
             memory: self.memory,
-            book: Book {
-                absent: self.absent,
-                limit: self.limit,
-                retired: self.retired,
-                done: self.done,
-                events: self.events,
-                answers: self.answers,
-                end: self.ended,
-                out: Listed::new(self.out),
-                records: Listed::new(self.records),
-            },
+            book: self.book,
         }
     }
 }

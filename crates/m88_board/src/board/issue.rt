@@ -1,17 +1,22 @@
 //! The event of the letter `i`: the next instruction is issued, is held, or ends the program.
 
-ghost use Rattle.std.specs.Prelude.{◌≡◌, ◌≤◌, ◌%◌, [], length, Ok, Some, None, false};
+ghost use Rattle.std.specs.Prelude.{◌≡◌, ◌≤◌, ◌%◌, ◌&&◌, [], length, Ok, Some, None, false};
 ghost use Rattle.m88_event.specs.declared.letter.Letter.{Letter as LetterValue};
+ghost use Rattle.m88_ctrl.specs.ControlRegisters.{carry_of};
 ghost use Rattle.m88_isa.specs.Held.{busy_register, is_pending, most_pending};
+ghost use Rattle.m88_isa.specs.Instr.{IsValid};
 ghost use Rattle.m88_isa.specs.Memory.{recorded};
+ghost use Rattle.m88_isa.specs.Operands.{waits_for_empty};
 ghost use Rattle.m88_isa.specs.declared.planned.Outline.TheVariants.{Memory};
 ghost use Rattle.m88_mem.specs.Lines.{HasInvolved};
 ghost use Rattle.m88_board.specs.Inside.Events.{Brings, BringsOrStays, TellsInstruction, TellsPlan};
 ghost use Rattle.m88_board.specs.Inside.NoInstruction.{IsFoundAt, IsFoundNext};
 ghost use Rattle.m88_board.specs.Inside.Turns.{HasTurn, IsDue, IsPlanOf, IsPlanned, planned_by};
 
+use crate::accesses::{prepare, put_in, write};
 use crate::board::Board;
 use crate::brief::Brief;
+use crate::slots::advance;
 use crate::told::Told;
 use m88_base::{NoMemory, Reg};
 use m88_codec::decode;
@@ -24,7 +29,7 @@ use m88_mem::Line;
 
 impl Board {
     /// The letter `i`: nothing where no more may be issued, a bubble is passed over, or the next instruction has its
-    /// turn.
+    /// turn. Where there is none, a vector is raised.
     // Not inlined, so that the loop over the letters stays small where they issue nothing.
     #[inline(never)]
     pub(super) fn issue(&mut self, told: &mut Told) -> Result<Brief, NoMemory>
@@ -34,13 +39,29 @@ impl Board {
         if self.is_idle() {
             return Ok(Brief::Idle);
         }
-        let nip = self.iunit.candidate();
-        if !nip.v {
+        if !self.iunit.candidate().v {
             self.pass();
             return Ok(Brief::Bubble);
         }
-        let found = self.line_at(nip.addr);
-        self.issue_next(found, told)
+        match self.fetch() {
+            Ok(line) => {
+                let taken = self.take_turn(&line, told);
+                // Behind the turn, which doesn't promise that the word stays.
+                told.word = line.word;
+                taken
+            }
+            Err(vector) => Ok(self.raise(vector)),
+        }
+    }
+
+    /// The next instruction, or the vector that is raised where there is none.
+    fn fetch(&mut self) -> Result<Line, u16>
+        requires { IsDue self.old }
+        ensures found { IsFoundNext result self.old }
+        ensures stays { self.new ≡ self.old }
+    {
+        let next = self.iunit.candidate().addr;
+        self.line_at(next)
     }
 
     /// The instruction at the byte address of a word, which is kept, or the vector that is raised where there is none.
@@ -61,26 +82,8 @@ impl Board {
         Ok(self.memory.keep(addr, word, instr))
     }
 
-    /// Carries out what was found at the address of the next instruction: it has its turn, or the vector is raised.
-    fn issue_next(&mut self, found: Result<Line, u16>, told: &mut Told) -> Result<Brief, NoMemory>
-        requires due { IsDue self.old }
-        requires found { IsFoundNext found self.old }
-        ensures brings { BringsOrStays LetterValue.Issue self.old result self.new }
-        ensures tells { TellsInstruction self.old told.old result self.new told.new }
-    {
-        match found {
-            Ok(line) => {
-                let issued = self.issue_instr(&line, told);
-                // Behind the issue, which doesn't promise that the word stays.
-                told.word = line.word;
-                issued
-            }
-            Err(vector) => Ok(self.raise(vector)),
-        }
-    }
-
-    /// The next instruction in its turn.
-    fn issue_instr(&mut self, line: &Line, told: &mut Told) -> Result<Brief, NoMemory>
+    /// The next instruction in its turn: a register that it uses or writes and that waits holds it, or none does.
+    fn take_turn(&mut self, line: &Line, told: &mut Told) -> Result<Brief, NoMemory>
         requires turn { HasTurn line.now.instr self.old }
         requires involved { HasInvolved line.now }
         ensures brings { BringsOrStays LetterValue.Issue self.old result self.new }
@@ -89,11 +92,11 @@ impl Board {
         if let Some(r) = self.busy_register(line) {
             return Ok(Brief::Stalled(Why::Busy(r)));
         }
-        self.issue_free(&line.instr, told)
+        self.carry_out(&line.instr, told)
     }
 
-    /// The next instruction in its turn, where no register that it uses or writes waits.
-    fn issue_free(&mut self, instr: &Instr, told: &mut Told) -> Result<Brief, NoMemory>
+    /// The next instruction in its turn, where no register that it uses or writes waits: what its outline tells.
+    fn carry_out(&mut self, instr: &Instr, told: &mut Told) -> Result<Brief, NoMemory>
         requires turn { HasTurn instr.now self.old }
         requires free { busy_register (Some instr.now) self.old.pending ≡ None }
         ensures brings { BringsOrStays LetterValue.Issue self.old result self.new }
@@ -103,13 +106,13 @@ impl Board {
             Outline::Next { reg, carry } => {
                 let next = self.iunit.following().addr;
                 let after = (next, next.wrapping_add(4));
-                Ok(self.issue_alone(instr, effect_alone(reg, carry, after, false), told))
+                Ok(self.change(instr, effect_alone(reg, carry, after, false), told))
             }
             Outline::Flow { reg, after, bubble } => {
                 let carry = self.ctrl.carry();
-                Ok(self.issue_alone(instr, effect_alone(reg, carry, after, bubble), told))
+                Ok(self.change(instr, effect_alone(reg, carry, after, bubble), told))
             }
-            Outline::Memory { op, d, place } => self.issue_touching(instr, op, d, place, told),
+            Outline::Memory { op, d, place } => self.access(instr, op, d, place, told),
             Outline::Raise(vector) => Ok(self.raise(vector)),
             Outline::Trap(vector) => {
                 if self.is_pending() {
@@ -120,10 +123,10 @@ impl Board {
         }
     }
 
-    /// The next instruction in its turn, where it makes these changes and no access.
+    /// The next instruction in its turn, which makes these changes and no access, or waits until nothing is pending.
     // Inlined, so that no changes are put together in memory.
     #[inline(always)]
-    fn issue_alone(&mut self, instr: &Instr, effect: Effect, told: &mut Told) -> Brief
+    fn change(&mut self, instr: &Instr, effect: Effect, told: &mut Told) -> Brief
         requires turn { HasTurn instr.now self.old }
         requires planned { IsPlanned instr.now effect self.old }
         requires alone { effect.accesses ≡ recorded [] }
@@ -132,15 +135,21 @@ impl Board {
         ensures tells { TellsPlan self.old told.old told.new }
     {
         told.tell(&effect);
-        if waits_for_empty(instr) && self.is_pending() {
+        if self.must_wait(instr) {
             return Brief::Stalled(Why::Sync);
         }
-        self.go_on(&effect);
+        write(&mut self.regs, effect.reg);
+        self.ctrl.set_carry(effect.carry);
+        advance(&mut self.iunit, &self.memory, effect.after, effect.bubble);
+        self.book.retired += 1;
         Brief::Issued
     }
 
-    /// The next instruction in its turn, which loads or stores or does both at a byte address.
-    fn issue_touching(
+    /// The next instruction in its turn, which loads or stores or does both at a byte address, or waits for room or
+    /// until nothing is pending.
+    // Not inlined, so that no place for its accesses is made where an instruction makes none.
+    #[inline(never)]
+    fn access(
         &mut self,
         instr: &Instr,
         op: MemOp,
@@ -154,38 +163,48 @@ impl Board {
         ensures brings { BringsOrStays LetterValue.Issue self.old result self.new }
         ensures tells { TellsPlan self.old told.old told.new }
     {
+        let effect = self.effect_at(instr, op, d, place);
+        told.tell(&effect);
+        if effect.accesses.count > self.dunit.room() {
+            return Ok(Brief::Stalled(Why::Full));
+        }
+        if self.must_wait(instr) {
+            return Ok(Brief::Stalled(Why::Sync));
+        }
+        prepare(&mut self.memory, &effect.accesses)?;
+        put_in(&mut self.dunit, &mut self.regs, &effect.accesses);
+        advance(&mut self.iunit, &self.memory, effect.after, effect.bubble);
+        self.book.retired += 1;
+        Ok(Brief::Issued)
+    }
+
+    /// What the next instruction does, which loads or stores or does both at a byte address.
+    #[inline(always)]
+    fn effect_at(&self, instr: &Instr, op: MemOp, d: Reg, place: u32) -> Effect
+        requires turn { HasTurn instr.now self.now }
+        requires free { busy_register (Some instr.now) self.now.pending ≡ None }
+        requires plan { IsPlanOf instr.now (planned_by (Memory op d place) self.now) self.now }
+        ensures planned { IsPlanned instr.now result self.now }
+        ensures reg { result.reg ≡ None }
+        ensures carry { result.carry ≡ carry_of self.now.control }
+    {
         let next = self.iunit.following().addr;
-        let effect = Effect {
+        Effect {
             reg: None,
             carry: self.ctrl.carry(),
             accesses: accesses_at(op, d, place, self.regs.numbers()),
             after: (next, next.wrapping_add(4)),
             bubble: false,
-        };
-        self.issue_accesses(instr, &effect, told)
+        }
     }
 
-    /// The next instruction in its turn, where it makes these changes, or it waits for room for its accesses.
-    fn issue_accesses(
-        &mut self,
-        instr: &Instr,
-        effect: &Effect,
-        told: &mut Told,
-    ) -> Result<Brief, NoMemory>
-        requires turn { HasTurn instr.now self.old }
-        requires planned { IsPlanned instr.now effect.now self.old }
-        ensures brings { BringsOrStays LetterValue.Issue self.old result self.new }
-        ensures tells { TellsPlan self.old told.old told.new }
+    /// Whether an instruction waits until nothing is pending, and something is.
+    #[inline(always)]
+    fn must_wait(&self, instr: &Instr) -> bool
+        requires { IsValid instr.now }
+        ensures { result ≡ (is_pending self.now.pending && waits_for_empty instr.now) }
     {
-        told.tell(effect);
-        if effect.accesses.count > self.dunit.room() {
-            return Ok(Brief::Stalled(Why::Full));
-        }
-        if waits_for_empty(instr) && self.is_pending() {
-            return Ok(Brief::Stalled(Why::Sync));
-        }
-        self.go(effect)?;
-        Ok(Brief::Issued)
+        waits_for_empty(instr) && self.is_pending()
     }
 
     /// Whether a transaction is pending.

@@ -42,7 +42,7 @@ impl Board {
             → result ≡ m.events }
         ensures kept { IsKept self.now }
     {
-        self.events
+        self.book.events
     }
 
     /// The instructions that were retired.
@@ -51,7 +51,7 @@ impl Board {
         ensures moment { (p : Program) (named : ℕ → Bool) (m : Moment) → IsAt p named m self.now
             → result ≡ m.retired }
     {
-        self.retired
+        self.book.retired
     }
 
     /// The transactions that were answered or finished.
@@ -60,7 +60,7 @@ impl Board {
         ensures moment { (p : Program) (named : ℕ → Bool) (m : Moment) → IsAt p named m self.now
             → result ≡ m.done }
     {
-        self.done
+        self.book.done
     }
 
     /// The records of data faults so far.
@@ -69,7 +69,7 @@ impl Board {
         ensures moment { (p : Program) (named : ℕ → Bool) (m : Moment) → IsAt p named m self.now
             → result ≡ length m.records }
     {
-        self.records.len() as u32
+        self.book.records.as_slice().len() as u32
     }
 
     /// The transactions that are pending, at most three.

@@ -4,7 +4,6 @@ ghost use Rattle.std.specs.Prelude.{ℕ, Bool, [], ◌↔◌, ◌≡◌, ◌<◌
 ghost use Rattle.m88_event.specs.Run.{IsDrain, IsDraining, IsFirst, IsOutcome, IsRunning, NotBefore, answered_after, moment_after, outcome_at, outcome_by};
 ghost use Rattle.m88_event.specs.Timeline.{Moment, is_over, opening_moment};
 ghost use Rattle.m88_event.specs.declared.happened.End.{End as EndValue};
-ghost use Rattle.m88_event.specs.declared.letter.Letter.{Letter as LetterValue};
 ghost use Rattle.m88_event.specs.declared.outcome.Outcome.{Outcome as OutcomeValue};
 ghost use Rattle.m88_isa.specs.Bus.{in_words};
 ghost use Rattle.m88_isa.specs.Held.{most_pending};
@@ -13,7 +12,6 @@ ghost use Rattle.m88_isa.specs.Machine.{IsProgram, Program, state};
 ghost use Rattle.m88_mem.specs.DataBus.{image_bus};
 ghost use Rattle.m88_board.specs.Board.{local_of};
 ghost use Rattle.m88_board.specs.Glances.{Saw, glances_along};
-ghost use Rattle.m88_board.specs.Inside.Events.{EvictsAll, ShownOrStays, TellsEvent};
 ghost use Rattle.m88_board.specs.Inside.Routes.{CanBeCounted, IsBoundedBy, stops_at_event, moments_by};
 ghost use Rattle.m88_board.specs.Kept.{IsKept, most_events};
 ghost use Rattle.m88_board.specs.Moves.{IsAlong, IsAt, IsSameRun};
@@ -22,14 +20,13 @@ ghost use Rattle.m88_board.specs.Walks.{IsNoHeavier};
 ghost use Rattle.m88_board.specs.declared.route.Route.{Route as RouteValue};
 
 use super::Board;
-use crate::brief::Brief;
 use crate::route::Route;
 use crate::told::Told;
 use crate::until::Until;
 use crate::walk::Walk;
 use crate::watch::Watch;
-use m88_base::{Listed, NoMemory};
-use m88_event::{End, Letter, Outcome, Schedule};
+use m88_base::NoMemory;
+use m88_event::{Outcome, Schedule};
 
 impl Board {
     /// Makes the events of the letters of a schedule, and then of `r` and `i` in turn, until nothing is pending and
@@ -118,35 +115,12 @@ impl Board {
             × (self.new.events ≡ self.old.events + events)) }
     {
         // Every route ends: what bounds it bounds the events so far.
-        let first = self.events;
+        let first = self.book.events;
         let mut told = Told::nothing();
-        while let Some(letter) = route.next(self, self.events - first) {
+        while let Some(letter) = route.next(self, self.book.events - first) {
             self.step(letter, watch, &mut told)?;
         }
         Ok(())
-    }
-
-    /// Makes the event of a letter, answers in brief, and tells of `i`, where somebody asks, what the instruction is
-    /// that goes on; then the watch is shown the board.
-    // Inlined, as all that makes an event but the issue and an answer over what is pending: so a letter over nothing
-    // enters no function.
-    #[inline(always)]
-    pub(crate) fn step<W: Watch>(
-        &mut self,
-        letter: Letter,
-        watch: &mut W,
-        told: &mut Told,
-    ) -> Result<Brief, NoMemory>
-        requires { self.old.events < most_events }
-        ensures happens { ShownOrStays letter self.old (W.seen watch.old) (W.seen watch.new)
-            result self.new }
-        ensures evicts { letter ≡ LetterValue.Evict → EvictsAll self.old result self.new }
-        ensures tells { TellsEvent letter self.old told.old result self.new told.new }
-        ensures unseen { OnErr result (watch.new ≡ watch.old) }
-    {
-        let brief = self.event_told(letter, told)?;
-        watch.after(self);
-        Ok(brief)
     }
 
     /// What a run came to that is over. Where memory runs out, the board is gone.
@@ -161,19 +135,8 @@ impl Board {
             → IsAt p named m self → is_over p self.limit m ≡ true
             → (o.end ≡ EndValue.Limit) ↔ (o.retired ≡ self.limit)) }
     {
-        let alloc = *self.out.allocator();
-        let changed = self.memory.changed(alloc)?;
         let regs = self.regs.values();
-        Ok(Outcome {
-            end: self.ended.unwrap_or(End::Limit),
-            retired: self.retired,
-            regs,
-            carry: self.ctrl.carry(),
-            out: Listed::new(self.out),
-            changed: Listed::new(changed),
-            events: self.events,
-            answers: self.answers,
-            records: Listed::new(self.records),
-        })
+        self.book
+            .into_outcome(regs, self.ctrl.carry(), &self.memory)
     }
 }

@@ -13,10 +13,8 @@ pub invariant_of-result : goal.invariant_of-result
 invariant_of-result c =
     begins IsKept c.args.parts c.args.limit c.of.result c.at.result c.pointer_of-xip.result c.fetched.result c.fetched-2.result
     c.lacks_word-lacks.result c.lacks_word-lacks_next.result c.new.result c.set_carry.new.self c.new-ctrl.result
-    c.into_items.result.items c.into_items-2.result.items
     c.at.ensures c.pointer_of-xip.ensures.value c.fetched.ensures c.fetched-2.ensures c.lacks_word-lacks.ensures
-    c.lacks_word-lacks_next.ensures c.new.ensures c.set_carry.ensures.state c.new-ctrl.ensures c.into_items.ensures
-    c.into_items-2.ensures
+    c.lacks_word-lacks_next.ensures c.new.ensures c.set_carry.ensures.state c.new-ctrl.ensures
     (kept_begun c.args.parts c.args.limit c.of.result c.requires
     (subst IsImage c.image-image.ensures c.part_count.ensures.image) c.of.ensures.waiting)
 
@@ -24,10 +22,9 @@ pub returns-clause-seen : goal.returns-clause-seen
 returns-clause-seen c =
     begins (λ (b : BoardView). local_of b ≡ seen_of_parts c.args.parts) c.args.parts c.args.limit c.of.result c.at.result
     c.pointer_of-xip.result c.fetched.result c.fetched-2.result c.lacks_word-lacks.result c.lacks_word-lacks_next.result
-    c.new.result c.set_carry.new.self c.new-ctrl.result c.into_items.result.items c.into_items-2.result.items
+    c.new.result c.set_carry.new.self c.new-ctrl.result
     c.at.ensures c.pointer_of-xip.ensures.value c.fetched.ensures c.fetched-2.ensures c.lacks_word-lacks.ensures
-    c.lacks_word-lacks_next.ensures c.new.ensures c.set_carry.ensures.state c.new-ctrl.ensures c.into_items.ensures
-    c.into_items-2.ensures
+    c.lacks_word-lacks_next.ensures c.new.ensures c.set_carry.ensures.state c.new-ctrl.ensures
     (seen_begun c.args.parts c.args.limit c.of.result c.of.ensures.numbers)
 
 pub returns-clause-control : goal.returns-clause-control

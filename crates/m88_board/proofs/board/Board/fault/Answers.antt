@@ -14,11 +14,11 @@ invariant_of-self-2 c =
     let faults = rw (← c.self.view_is) at c.requires in
     let resumes = rw (← c.self.view_is) at c.pipe-fault.ensures.resumes in
     kept_faulted (the_view c.self.inside) c.serve_all-done.new.regs c.serve_all-done.new.memory c.serve_all-done.new.ctrl c.resume.new.self
-    c.serve_all-done.new.unit _ c.push.new.self.items c.pipe-fault.result c.self.invariant
+    c.serve_all-done.new.unit _ c.push.new.self c.pipe-fault.result c.self.invariant
     (faults_some c.self.inside.dunit (absent_of c.self.inside.memory) faults) c.serve_all-done.ensures.pending
     c.serve_all-done.ensures.waiting c.serve_all-done.ensures.image c.serve_all-done.ensures.psr
     (c.resume.ensures.value ∙ ap₂ (λ snip sfip. resumed c.self.inside.iunit snip sfip) c.serve_all-done.ensures.snip c.serve_all-done.ensures.sfip ∙ resumes)
-    (ap (λ n. c.self.inside.done + n) (c.from.ensures ∙ c.serve_all-done.ensures.counted)) (search rules)
+    (ap (λ n. c.self.inside.book.done + n) (c.from.ensures ∙ c.serve_all-done.ensures.counted)) (search rules)
 
 pub returns : goal.returns
 returns c =
@@ -29,10 +29,10 @@ returns c =
     rw (← c.self.view_is)
     (fault_brings c.pipe-fault.result (the_view c.self.inside) _ faults recorded (search rules)
     (does_fault (the_view c.self.inside) c.serve_all-done.new.regs c.serve_all-done.new.memory c.serve_all-done.new.ctrl c.resume.new.self
-    c.serve_all-done.new.unit _ c.push.new.self.items c.pipe-fault.result c.serve_all-done.ensures.pending c.serve_all-done.ensures.cells
+    c.serve_all-done.new.unit _ c.push.new.self c.pipe-fault.result c.serve_all-done.ensures.pending c.serve_all-done.ensures.cells
     c.serve_all-done.ensures.absent c.serve_all-done.ensures.image c.serve_all-done.ensures.psr
     (c.resume.ensures.value ∙ ap₂ (λ snip sfip. resumed c.self.inside.iunit snip sfip) c.serve_all-done.ensures.snip c.serve_all-done.ensures.sfip ∙ resumes)
-    (ap (λ n. c.self.inside.done + n) (c.from.ensures ∙ c.serve_all-done.ensures.counted)) (search rules)) (
+    (ap (λ n. c.self.inside.book.done + n) (c.from.ensures ∙ c.serve_all-done.ensures.counted)) (search rules)) (
       c.serve_all-done.ensures.shows (words (still_going (the_view c.self.inside) c.self.invariant
           (faults_some c.self.inside.dunit (absent_of c.self.inside.memory) faults))),
       c.serve_all-done.ensures.rest,

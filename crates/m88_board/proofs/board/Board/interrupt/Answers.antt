@@ -13,46 +13,30 @@ use Rattle.m88_board.specs.declared.context.Context.{Context}
 use Rattle.m88_board.proofs.board.Board.interrupt.Goals as goal
 
 -- nothing is pending
-none_pending : (c : goal.After-exchange-2) → c.self.inside.dunit ≡ []
+none_pending : (c : goal.After-swap-2) → c.self.inside.dunit ≡ []
 none_pending c =
     let tested = rw (← c.self.view_is) at c.is_pending.ensures in
     let no : c.is_pending.result ≡ false = search rules in
     empty_of c.self.inside.dunit (sym tested ∙ no)
 
 -- the board afterwards
-abbrev new_board : goal.After-exchange-2 → BoardView
+abbrev new_board : goal.After-swap-2 → BoardView
 new_board c = record {
-  limit = c.swap-3.new.x;
-  named = c.swap-2.new.x;
   slots = c.come_back-self-inside.result;
   pending = c.self.inside.dunit;
   file = c.of-self-inside.result;
   memory = c.swap.new.x;
   control = c.come_back-self-inside.new.ctrl;
-  out = c.exchange.new.items.items;
-  retired = c.swap-4.new.x;
-  done = c.swap-5.new.x;
-  events = c.swap-6.new.x;
-  answers = c.swap-7.new.x;
-  ended = c.swap-8.new.x;
-  records = c.exchange-2.new.items.items;
+  book = c.swap-2.new.x;
   begun = c.self.inside.begun;
 }
 
-from : (c : goal.After-exchange-2) → ComesFrom c.args.other.now (new_board c)
+from : (c : goal.After-swap-2) → ComesFrom c.args.other.now (new_board c)
 from c = record {
-  limit = c.swap-3.ensures.x_after;
-  named = c.swap-2.ensures.x_after;
   slots = c.come_back-self-inside.ensures.slots;
   pending = none_pending c;
   memory = c.swap.ensures.x_after;
-  out = c.exchange.ensures.items;
-  retired = c.swap-4.ensures.x_after;
-  done = c.swap-5.ensures.x_after;
-  events = c.swap-6.ensures.x_after;
-  answers = c.swap-7.ensures.x_after;
-  ended = c.swap-8.ensures.x_after;
-  records = c.exchange-2.ensures.items;
+  book = c.swap-2.ensures.x_after;
   begun = rw (← c.self.view_is) at c.requires.begun;
   are = record {
     numbers = c.of-self-inside.ensures.numbers;
@@ -63,41 +47,21 @@ from c = record {
 }
 
 -- the context afterwards
-abbrev new_context : goal.After-exchange-2 → Context
+abbrev new_context : goal.After-swap-2 → Context
 new_context c = record {
   saved = c.saved_by-other.result;
   memory = c.swap.new.y;
-  book = record {
-    absent = c.swap-2.new.y;
-    limit = c.swap-3.new.y;
-    retired = c.swap-4.new.y;
-    done = c.swap-5.new.y;
-    events = c.swap-6.new.y;
-    answers = c.swap-7.new.y;
-    end = c.swap-8.new.y;
-    out = c.exchange.new.listed;
-    records = c.exchange-2.new.listed;
-  };
+  book = c.swap-2.new.y;
 }
 
-kept_words : (c : goal.After-exchange-2) → new_context c ≡ context_of (the_view c.self.inside)
+kept_words : (c : goal.After-swap-2) → new_context c ≡ context_of (the_view c.self.inside)
 kept_words c =
     let saved = saved_is (the_view c.self.inside) c.saved_by-other.result c.values-regs.result c.is_some.result c.leave.new.ctrl
     c.self.invariant (none_pending c) c.values-regs.ensures.whole c.is_some.ensures c.leave.ensures c.saved_by-other.ensures in
     λ i. record {
       saved = saved i;
       memory = c.swap.ensures.y_after i;
-      book = record {
-        absent = c.swap-2.ensures.y_after i;
-        limit = c.swap-3.ensures.y_after i;
-        retired = c.swap-4.ensures.y_after i;
-        done = c.swap-5.ensures.y_after i;
-        events = c.swap-6.ensures.y_after i;
-        answers = c.swap-7.ensures.y_after i;
-        end = c.swap-8.ensures.y_after i;
-        out = c.exchange.ensures.listed i;
-        records = c.exchange-2.ensures.listed i;
-      };
+      book = c.swap-2.ensures.y_after i;
     }
 
 pub of-self-inside-requires : goal.of-self-inside-requires
@@ -113,7 +77,7 @@ returns-clause-resumed c = λ p named m stands. at_from p named m c.args.other.n
 
 pub returns-clause-suspended : goal.returns-clause-suspended
 returns-clause-suspended c = rw (← c.self.view_is)
-    (λ p m at. subst (StandsFor p (absent_in c.self.inside.absent) m) (sym (kept_words c))
+    (λ p m at. subst (StandsFor p (absent_in c.self.inside.book.absent) m) (sym (kept_words c))
     (stands_for p m (the_view c.self.inside) c.self.invariant (none_pending c) at))
 
 pub returns-clause-runs : goal.returns-clause-runs

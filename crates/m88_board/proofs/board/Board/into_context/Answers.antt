@@ -10,7 +10,7 @@ use Rattle.m88_board.specs.contracts.board.Board.{the_view}
 use Rattle.m88_board.specs.declared.context.Context.{Context}
 use Rattle.m88_board.proofs.board.Board.into_context.Goals as goal
 
-abbrev made : goal.After-new-2 → Context
+abbrev made : goal.After-shadow-sxip → Context
 made c = record {
   saved = record {
     regs = c.values-regs.result;
@@ -20,20 +20,10 @@ made c = record {
     sfip = c.shadow-sxip.result.2;
   };
   memory = c.self.inside.memory;
-  book = record {
-    absent = c.self.inside.absent;
-    limit = c.self.inside.limit;
-    retired = c.self.inside.retired;
-    done = c.self.inside.done;
-    events = c.self.inside.events;
-    answers = c.self.inside.answers;
-    end = c.self.inside.ended;
-    out = c.new.result;
-    records = c.new-2.result;
-  };
+  book = c.self.inside.book;
 }
 
-own_words : (c : goal.After-new-2) → made c ≡ context_of (the_view c.self.inside)
+own_words : (c : goal.After-shadow-sxip) → made c ≡ context_of (the_view c.self.inside)
 own_words c =
     let none = rw (← c.self.view_is) at c.requires in
     let regs = c.values-regs.ensures.whole (none_wait (the_view c.self.inside) c.self.invariant none) in
@@ -47,17 +37,7 @@ own_words c =
         sfip = (c.shadow-sxip.ensures.value i).2;
       };
       memory = c.self.inside.memory;
-      book = record {
-        absent = c.self.inside.absent;
-        limit = c.self.inside.limit;
-        retired = c.self.inside.retired;
-        done = c.self.inside.done;
-        events = c.self.inside.events;
-        answers = c.self.inside.answers;
-        end = c.self.inside.ended;
-        out = c.new.ensures i;
-        records = c.new-2.ensures i;
-      };
+      book = c.self.inside.book;
     }
 
 pub returns-clause-value : goal.returns-clause-value
@@ -71,5 +51,5 @@ pub returns-clause-stands : goal.returns-clause-stands
 returns-clause-stands c =
     let none = rw (← c.self.view_is) at c.requires in
     rw (← c.self.view_is)
-    (λ p m at. subst (StandsFor p (absent_in c.self.inside.absent) m) (sym (own_words c))
+    (λ p m at. subst (StandsFor p (absent_in c.self.inside.book.absent) m) (sym (own_words c))
     (stands_for p m (the_view c.self.inside) c.self.invariant none at))

@@ -12,9 +12,9 @@ returns-clause-parts c =
     let ended = rw (← c.self.view_is) at c.requires in
     rw (← c.self.view_is)
     (parts_are (the_view c.self.inside) c.values-regs.result c.carry.result c.candidate-nip.result.addr c.following-fip.result.addr
-    c.last_of.result c.new.result c.new-2.result c.self.invariant ended c.values-regs.ensures.whole c.carry.ensures
+    c.last_of.result c.self.invariant ended c.values-regs.ensures.whole c.carry.ensures
     (ap (λ (s : Slot). s.addr) c.candidate-nip.ensures.value) (ap (λ (s : Slot). s.addr) c.following-fip.ensures.value)
-    (c.last_of.ensures ∙ ap last_of c.xip-xip.ensures.value) c.new.ensures c.new-2.ensures)
+    (c.last_of.ensures ∙ ap last_of c.xip-xip.ensures.value))
 
 pub returns-clause-begins : goal.returns-clause-begins
 returns-clause-begins c =
@@ -22,9 +22,9 @@ returns-clause-begins c =
     rw (← c.self.view_is)
     (may_begin (the_view c.self.inside) _ c.self.invariant ended
     (parts_are (the_view c.self.inside) c.values-regs.result c.carry.result c.candidate-nip.result.addr c.following-fip.result.addr
-    c.last_of.result c.new.result c.new-2.result c.self.invariant ended c.values-regs.ensures.whole c.carry.ensures
+    c.last_of.result c.self.invariant ended c.values-regs.ensures.whole c.carry.ensures
     (ap (λ (s : Slot). s.addr) c.candidate-nip.ensures.value) (ap (λ (s : Slot). s.addr) c.following-fip.ensures.value)
-    (c.last_of.ensures ∙ ap last_of c.xip-xip.ensures.value) c.new.ensures c.new-2.ensures)
+    (c.last_of.ensures ∙ ap last_of c.xip-xip.ensures.value))
     c.values-regs.ensures.zero
     (subst IsWordSlot c.xip-xip.ensures.value c.xip-xip.ensures.word)
     (subst IsWordSlot c.candidate-nip.ensures.value c.candidate-nip.ensures.word)
@@ -37,7 +37,7 @@ returns-clause-seen c = λ mode.
     rw (← c.self.view_is)
     (seen_back (the_view c.self.inside) _ c.self.invariant ended
     (parts_are (the_view c.self.inside) c.values-regs.result c.carry.result c.candidate-nip.result.addr c.following-fip.result.addr
-    c.last_of.result c.new.result c.new-2.result c.self.invariant ended c.values-regs.ensures.whole c.carry.ensures
+    c.last_of.result c.self.invariant ended c.values-regs.ensures.whole c.carry.ensures
     (ap (λ (s : Slot). s.addr) c.candidate-nip.ensures.value) (ap (λ (s : Slot). s.addr) c.following-fip.ensures.value)
-    (c.last_of.ensures ∙ ap last_of c.xip-xip.ensures.value) c.new.ensures c.new-2.ensures)
+    (c.last_of.ensures ∙ ap last_of c.xip-xip.ensures.value))
     clear)

@@ -17,8 +17,7 @@ use Rattle.m88_board.proofs.board.Board.new.Goals as goal
 pub invariant_of-result : goal.invariant_of-result
 invariant_of-result c =
     made IsKept c.args.mxm c.args.limit c.copy.result c.args.absent.now c.new-2.result _ c.new-3.result c.new-4.result c.in_ok-memory.memory c.new-5.result
-    c.new-6.result.items c.new-7.result.items c.copy.ensures c.new-2.ensures c.new-3.ensures c.new-5.ensures c.new-6.ensures.items
-    c.new-7.ensures.items
+    c.new-6.result c.copy.ensures c.new-2.ensures c.new-3.ensures c.new-5.ensures c.new-6.ensures
     (kept c.args.mxm c.args.limit c.args.absent.now _ _ _ c.new-4.result
     c.in_ok-memory.memory c.requires.small
     (subst IsImage (sym c.in_ok-memory.ensures.image) c.part_count.ensures.image) c.new-4.ensures.waiting c.lacks_word-e0.ensures c.lacks_word-e1.ensures)
@@ -37,8 +36,8 @@ pub returns-clause-at : goal.returns-clause-at
 returns-clause-at c = λ p of mode.
     let image = sym c.in_ok-memory.ensures.image in
     made (IsAt p (absent_in c.args.absent.now) opening_moment) c.args.mxm c.args.limit c.copy.result c.args.absent.now c.new-2.result _ c.new-3.result c.new-4.result
-    c.in_ok-memory.memory c.new-5.result c.new-6.result.items c.new-7.result.items c.copy.ensures c.new-2.ensures c.new-3.ensures
-    c.new-5.ensures c.new-6.ensures.items c.new-7.ensures.items
+    c.in_ok-memory.memory c.new-5.result c.new-6.result c.copy.ensures c.new-2.ensures c.new-3.ensures
+    c.new-5.ensures c.new-6.ensures
     (opens p (absent_in c.args.absent.now) c.args.mxm c.args.limit c.args.absent.now (c.start.result / 4 * 4) c.lacks_word-e0.result
     c.lacks_word-e1.result c.new-4.result c.in_ok-memory.memory c.new-4.ensures.numbers
     (c.in_ok-memory.ensures.bus ∙ ap image_bus image) c.in_ok-memory.ensures.absent

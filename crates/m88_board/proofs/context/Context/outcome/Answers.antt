@@ -1,9 +1,31 @@
 -- What a context came to is what the moment does for which it stands.
-use Rattle.std.proofs.Common.{refl, ◌∙◌}
+use Rattle.std.specs.Prelude.{ℕ, Bool, true, ◌≡◌, ◌==◌}
+use Rattle.std.specs.Int.{bit_at}
+use Rattle.std.proofs.Common.{ap, refl}
+use Rattle.std.proofs.lemmas.Result.{IfOk-weaker}
+use Rattle.m88_ctrl.specs.ControlRegisters.{carry_place}
+use Rattle.m88_event.specs.Run.{outcome_at}
+use Rattle.m88_event.specs.Timeline.{Moment, is_over}
+use Rattle.m88_event.specs.declared.outcome.Outcome.{Outcome}
+use Rattle.m88_isa.specs.Machine.{Program}
 use Rattle.m88_board.proofs.CameTo.{comes_to}
+use Rattle.m88_board.specs.Contexts.{StandsFor}
+use Rattle.m88_board.specs.Inside.Books.{outcome_in}
+use Rattle.m88_board.specs.declared.context.Context.{Context}
 use Rattle.m88_board.proofs.context.Context.outcome.Goals as goal
 
+-- by the book, and by what the registers, the carry and memory hold
+abbrev Comes : Context → Outcome → Type 0
+Comes c o = o ≡ outcome_in c.book c.saved.regs (bit_at c.saved.epsr carry_place == 1) c.memory
+
+pub returns-clause-events : goal.returns-clause-events
+returns-clause-events c =
+    IfOk-weaker c.into_outcome.result (Comes c.args.self) (λ (o : Outcome). o.events ≡ c.args.self.book.events)
+    (λ o is. ap (λ (x : Outcome). x.events) is) c.into_outcome.ensures
+
 pub returns-clause-moment : goal.returns-clause-moment
-returns-clause-moment c = λ p named m stands over.
-    comes_to p named m c.args.self c.unwrap_or.result _ c.new.result c.new-2.result stands c.unwrap_or.ensures refl
-    (c.new.ensures ∙ c.into_items-out.ensures) (c.new-2.ensures ∙ c.in_ok-changed.ensures)
+returns-clause-moment c =
+    IfOk-weaker c.into_outcome.result (Comes c.args.self)
+    (λ (o : Outcome). (p : Program) (named : ℕ → Bool) (m : Moment) → StandsFor p named m c.args.self
+    → is_over p c.args.self.book.limit m ≡ true → o ≡ outcome_at p m)
+    (λ o is p named m stands over. comes_to p named m c.args.self _ o stands refl is) c.into_outcome.ensures

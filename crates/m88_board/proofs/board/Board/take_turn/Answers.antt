@@ -9,7 +9,7 @@ use Rattle.m88_board.proofs.Brought.{brought, comes_by, tells_none}
 use Rattle.m88_board.proofs.Issuing.{busy_first}
 use Rattle.m88_board.specs.Inside.Turns.{choice_for}
 use Rattle.m88_board.specs.declared.brief.Brief.TheVariants.{Stalled}
-use Rattle.m88_board.proofs.board.Board.issue_instr.Goals as goal
+use Rattle.m88_board.proofs.board.Board.take_turn.Goals as goal
 
 pub returns-in-Some-clause-brings : goal.returns-in-Some-clause-brings
 returns-in-Some-clause-brings c =

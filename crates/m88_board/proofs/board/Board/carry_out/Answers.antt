@@ -8,7 +8,7 @@ use Rattle.m88_board.proofs.Brought.{comes_by, held_brings, stopping_issues_none
 use Rattle.m88_board.proofs.Issuing.{nothing_pending, raise_is, raising, trap_held, trap_is, trap_turn}
 use Rattle.m88_board.specs.Board.{pc_of}
 use Rattle.m88_board.specs.Inside.Turns.{stopping}
-use Rattle.m88_board.proofs.board.Board.issue_free.Goals as goal
+use Rattle.m88_board.proofs.board.Board.carry_out.Goals as goal
 
 pub raise-requires-clause-comes : goal.raise-requires-clause-comes
 raise-requires-clause-comes c =

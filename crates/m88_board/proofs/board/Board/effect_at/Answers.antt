@@ -1,18 +1,20 @@
 -- The accesses are those that the instruction makes of what the registers hold.
 use Rattle.std.proofs.Common.{◌∙◌, None, ap, false, sym}
 use Rattle.m88_base.specs.declared.slot.Slot.{Slot}
+use Rattle.m88_ctrl.specs.ControlRegisters.{carry_of}
 use Rattle.m88_isa.specs.Address.{after_bytes}
 use Rattle.m88_isa.specs.declared.planned.Accesses.{Accesses}
-use Rattle.m88_isa.specs.declared.planned.Plan.TheVariants.{Go}
 use Rattle.m88_isa.specs.declared.planned.Outline.TheVariants.{Memory}
+use Rattle.m88_isa.specs.declared.planned.Plan.TheVariants.{Go}
 use Rattle.m88_board.proofs.Issuing.{shown_by}
 use Rattle.m88_board.proofs.Planned.{planned_from}
+use Rattle.m88_board.specs.Board.{BoardView}
 use Rattle.m88_board.specs.Inside.Turns.{planned_by}
 use Rattle.m88_board.specs.contracts.board.Board.{the_view}
-use Rattle.m88_board.proofs.board.Board.issue_touching.Goals as goal
+use Rattle.m88_board.proofs.board.Board.effect_at.Goals as goal
 
-pub issue_accesses-requires-clause-planned : goal.issue_accesses-requires-clause-planned
-issue_accesses-requires-clause-planned c =
+pub returns-clause-planned : goal.returns-clause-planned
+returns-clause-planned c =
     let b = c.args.self.now in
     let memory = Memory c.args.op c.args.d c.args.place in
     let next = c.following-next.result.addr in
@@ -27,3 +29,6 @@ issue_accesses-requires-clause-planned c =
       bubble = false;
     })) (sym c.accesses_at.ensures))
     c.requires.turn.instr c.requires.free c.requires.plan
+
+pub returns-clause-carry : goal.returns-clause-carry
+returns-clause-carry c = c.carry.ensures ∙ ap (λ (b : BoardView). carry_of b.control) c.self.view_is
