@@ -59,7 +59,7 @@ text_end-objects text [] = refl
 text_end-objects text (m ∷ ms) =
     ap (λ n. text_end section_size (up_to_multiple 8 text + n) (map object_of ms)) (length-section m 0) ∙ text_end-objects (up_to_multiple 8 text + section_length 0 m) ms
 
-all_stood : (u : Source) → stood section_size (objects_of u) ≡ map placement (based u)
+pub all_stood : (u : Source) → stood section_size (objects_of u) ≡ map placement (based u)
 all_stood u =
     ap (λ n. stood_from section_size first_text (up_to_multiple page_bytes n) (objects_of u)) (text_end-objects first_text u.modules)
     ∙ stood-objects first_text (up_to_multiple page_bytes (text_end section_length first_text u.modules)) u.modules

@@ -12,6 +12,8 @@ pub use Rattle.m88_asm.proofs.Reaching.{linkable_law, linked_law}
 pub use Rattle.m88_asm.proofs.Layouts.{linkable_too, linked_too, refused_first, refused_too}
 -- both have the same extents
 pub use Rattle.m88_asm.proofs.Composing.{extents_law}
+-- the objects stand where their modules do, and so do the sections of each
+pub use Rattle.m88_asm.proofs.Composing.{all_stood, placement, same_base}
 -- Objects of a unit: they are sound, and they have a text, which is that of no others.
 pub use Rattle.m88_asm.proofs.UnitSound.{modules_sound}
 pub use Rattle.m88_asm.proofs.ObjectTexts.{objects_have_text}

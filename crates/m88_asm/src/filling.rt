@@ -129,8 +129,8 @@ pub(crate) fn alignment_of(body: &Body) -> usize
     }
 }
 
-/// The number of bytes that a body gives at a place.
-pub(crate) fn length_at(place: usize, body: &Body) -> usize
+/// The number of bytes that a body gives, where this is the place that alignment goes by.
+pub fn length_at(place: usize, body: &Body) -> usize
     requires { IsFormedBody body.now }
     ensures { result ≡ length_at place body.now }
 {

@@ -1,4 +1,4 @@
-//! The assembler: the objects of a unit.
+//! The assembler: the objects of a unit, and how many bytes each of its statements gives.
 #![tactic(auto)]
 
 // The object of a module, statement by statement.
@@ -13,5 +13,6 @@ mod image;
 mod objects;
 
 pub use fault::{AsmFault, AsmKind, UnitFault};
+pub use filling::length_at;
 pub use image::image_of;
 pub use objects::assemble;

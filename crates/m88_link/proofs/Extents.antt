@@ -10,7 +10,7 @@ use Rattle.m88_link.specs.declared.object.Section.{Section}
 use Rattle.m88_link.specs.Bases.{Placement, base_at, first_data, first_text, section_size, stood, stood_from, text_end, up_to_multiple}
 use Rattle.m88_link.specs.Layout.{Extent, extent, extents_of}
 use Rattle.m88_link.specs.Refusal.{is_too_large}
-use Rattle.m88_link.specs.Inside.Sizes.{object_size, sections_size, total_size}
+use Rattle.m88_link.specs.Sizes.{object_size, sections_size, total_size}
 use Rattle.m88_base.specs.Image.{most_bytes}
 use Rattle.m88_link.specs.Sound.{IsSound}
 use Rattle.m88_link.proofs.Stood.{sections_fit, sizes_fit}

@@ -13,7 +13,7 @@ use Rattle.m88_link.specs.Bases.{first_data, first_text, section_size, stood}
 use Rattle.m88_link.specs.Inside.Carried.{AreAlone}
 use Rattle.m88_link.specs.Layout.{extents_of, globals_of, layout_of, references_of, spots_of}
 use Rattle.m88_link.specs.Refusal.{AreDisjoint, IsLinkable, IsOverlap, IsRefused, duplicate, is_too_large, symbol_fault, too_far, too_large, undefined}
-use Rattle.m88_link.specs.Inside.Sizes.{total_size}
+use Rattle.m88_link.specs.Sizes.{total_size}
 use Rattle.m88_base.specs.Image.{most_bytes}
 use Rattle.m88_link.specs.Sound.{IsSound}
 use Rattle.m88_link.proofs.Extents.{extents_len, too_large_is}

@@ -12,7 +12,7 @@ use Rattle.m88_link.specs.declared.object.Place.TheVariants.{Text, DataSection, 
 use Rattle.m88_link.specs.declared.object.Reloc.{Reloc}
 use Rattle.m88_link.specs.declared.object.Section.{Section}
 use Rattle.m88_link.specs.Bases.{Placement, base_at, base_of, section_size, stood_from, text_end, up_to_multiple}
-use Rattle.m88_link.specs.Inside.Sizes.{object_size, sections_size, total_size}
+use Rattle.m88_link.specs.Sizes.{object_size, sections_size, total_size}
 use Rattle.m88_base.specs.Image.{most_bytes}
 use Rattle.m88_link.specs.Sound.{AreSections, HasRoom, IsOwnAddress, IsPatchIn, IsSound, origin}
 

@@ -1,6 +1,5 @@
 -- Words for the contracts of private functions alone: no promise of the program names them.
 pub mod Tables
-pub mod Sizes
 pub mod Overlap
 pub mod Exports
 pub mod Resolved

@@ -2,6 +2,7 @@
 -- Inside is for private contracts.
 pub mod Symbols
 pub mod Sound
+pub mod Sizes
 pub mod Bases
 pub mod Field
 pub mod Relocated

@@ -1,20 +1,20 @@
 //! Where the text and the data of each object stand.
 ghost use Rattle.std.specs.Prelude.{◌≡◌, ◌+◌, ◌*◌, ◌^◌, length, ◌<◌, ◌≤◌, ◌↔◌, All, IfOk, IsTrue, MatchOption};
 ghost use Rattle.m88_link.specs.Bases.{base_at, base_of, first_text, section_size, stood, text_end};
-ghost use Rattle.m88_link.specs.Inside.Sizes.{object_size, sections_size, total_size};
+ghost use Rattle.m88_link.specs.Sizes.{object_size, sections_size, total_size};
 ghost use Rattle.m88_base.specs.Image.{most_bytes};
 ghost use Rattle.m88_link.specs.Sound.{IsPatchIn, IsSound};
 ghost use Rattle.m88_link.specs.Symbols.{placed_value};
 
 use crate::object::{Object, Place, Reloc, Section, Symbol};
-use m88_base::{FIRST_TEXT, MOST_BYTES, PAGE_BYTES};
+use m88_base::{FIRST_TEXT, MOST_BYTES, Name, PAGE_BYTES};
 use std::alloc::{AllocError, Global};
 use std::marker::Model;
 
 /// The alignment of each object's text and data, in bytes.
 const PART: u32 = 8;
 
-/// An object with the addresses of its text and its data.
+/// A sound object with the addresses of its text and its data, neither of which reaches past 0xFFFFFFFF.
 #[derive(Drop)]
 pub struct Placement<'a> {
     object: &'a Object,
@@ -42,9 +42,16 @@ impl<'a> Model for Placement<'a> {
 }
 
 impl Placement<'_> {
+    /// The name of the object.
+    pub fn name(&self) -> Name
+        ensures { result ≡ self.now.part.name }
+    {
+        self.object.name
+    }
+
     /// The sections of the object.
     #[tactic(auto, using(crate::proofs::Stood::sections_fit))]
-    pub fn sections(&self) -> &[Section]
+    pub(crate) fn sections(&self) -> &[Section]
         ensures value { result.now ≡ self.now.part.sections }
         ensures sound { IsSound self.now.part }
         ensures fit { All (λ x. base_at self.now x.place + length x.bytes ≤ 2 ^ 32) result.now }
@@ -61,7 +68,7 @@ impl Placement<'_> {
     }
 
     /// The relocations of the object.
-    pub fn relocs(&self) -> &[Reloc]
+    pub(crate) fn relocs(&self) -> &[Reloc]
         ensures value { result.now ≡ self.now.part.relocs }
         ensures sound { IsSound self.now.part }
     {
@@ -69,7 +76,7 @@ impl Placement<'_> {
     }
 
     /// The address of a section's first byte, by its place.
-    pub fn base_at(&self, place: Place) -> u32
+    pub(crate) fn base_at(&self, place: Place) -> u32
         ensures { result ≡ base_at self.now place }
     {
         match place {
@@ -80,10 +87,10 @@ impl Placement<'_> {
     }
 
     /// The address of the first byte of a section, 0 where there is no such section.
-    pub fn base(&self, index: u32) -> u32
+    pub fn base(&self, index: usize) -> u32
         ensures { result ≡ base_of self.now index }
     {
-        match self.object.sections.as_slice().get(index as usize) {
+        match self.object.sections.as_slice().get(index) {
             Some(section) => self.base_at(section.place),
             None => 0,
         }
@@ -91,13 +98,13 @@ impl Placement<'_> {
 
     /// The address of the word of a relocation of the object.
     #[tactic(auto, using(crate::proofs::Stood::word_fits))]
-    pub fn address(&self, reloc: &Reloc) -> u32
+    pub(crate) fn address(&self, reloc: &Reloc) -> u32
         requires { IsPatchIn self.now.part.sections reloc.now }
         ensures { result ≡ base_of self.now reloc.now.section + reloc.now.offset }
     {
         // Reading a field brings what every placement keeps to the proof: the sum fits.
         let _ = &self.object;
-        self.base(reloc.section) + reloc.offset
+        self.base(reloc.section as usize) + reloc.offset
     }
 
     /// The value of a symbol of the object where that is linked, by the section and the value of its definition.
@@ -105,14 +112,14 @@ impl Placement<'_> {
         ensures { result ≡ placed_value (base_of self.now) section value }
     {
         match section {
-            Some(index) => self.base(index).wrapping_add(value),
+            Some(index) => self.base(index as usize).wrapping_add(value),
             None => value,
         }
     }
 }
 
 /// Whether the objects have at most 1,048,576 bytes.
-pub fn fit(objects: &[Object]) -> bool
+pub(crate) fn fit(objects: &[Object]) -> bool
     ensures { IsTrue result ↔ (total_size objects.now ≤ most_bytes) }
 {
     let mut room = MOST_BYTES;
@@ -162,7 +169,8 @@ fn text_end(objects: &[Object]) -> u32
     end
 }
 
-/// The objects where they are linked.
+/// The objects where they are linked: each text at the next multiple of 8 from 0x00001000 on, and each data so from the
+/// first page behind all text on.
 #[tactic(auto, using(crate::proofs::Stood::stood_more, crate::proofs::Stood::sizes_fit))]
 pub fn stand<'a>(alloc: Global, objects: &'a [Object]) -> Result<Vec<Placement<'a>>, AllocError>
     requires sound { All IsSound objects.now }

@@ -1,5 +1,5 @@
-//! Objects of the assembler and the linker: their sections, symbols and relocations, what makes them
-//! sound, their text, and the image that a list of them is linked into.
+//! Objects of the assembler and the linker: their sections, symbols and relocations, what makes them sound, their text,
+//! where they stand, and the image that a list of them is linked into.
 #![tactic(auto)]
 
 // What objects are, and what is told of them.
@@ -29,6 +29,7 @@ mod text;
 mod walk;
 mod words;
 
+pub use bases::{Placement, stand};
 pub use fault::{LinkFault, LinkKind};
 pub use linking::link;
 pub use object::{Definition, Object, Place, Reloc, Section, Symbol};

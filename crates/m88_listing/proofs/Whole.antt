@@ -13,7 +13,7 @@ use Rattle.m88_parse.specs.Language.Units.{IsUnit}
 use Rattle.m88_parse.specs.declared.unit.Unit.{Unit as Source}
 use Rattle.m88_link.proofs.Laws.{too_large_is}
 use Rattle.m88_link.specs.Refusal.{is_too_large}
-use Rattle.m88_link.specs.Inside.Sizes.{total_size}
+use Rattle.m88_link.specs.Sizes.{total_size}
 use Rattle.m88_asm.proofs.Laws.{extents_law, modules_sound, not_linked, same_program_refusal}
 use Rattle.m88_asm.specs.Accepted.{IsAcceptedUnit}
 use Rattle.m88_asm.specs.Images.{IsUnitImage}

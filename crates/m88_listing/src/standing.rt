@@ -3,7 +3,7 @@ ghost use Rattle.std.specs.Prelude.{◌≡◌, ◌+◌, ◌*◌, ◌≤◌, IfOk
 ghost use Rattle.m88_base.specs.Image.{most_bytes};
 ghost use Rattle.m88_base.specs.Pages.{page_bytes};
 ghost use Rattle.m88_link.specs.Bases.{first_text, section_size, stood_from, text_end, up_to_multiple};
-ghost use Rattle.m88_link.specs.Inside.Sizes.{object_size, total_size};
+ghost use Rattle.m88_link.specs.Sizes.{object_size, total_size};
 ghost use Rattle.m88_link.specs.Symbols.{value_in};
 ghost use Rattle.m88_asm.specs.Objects.{object_of, symbols_in};
 ghost use Rattle.m88_asm.specs.Units.{base_in, section_length};

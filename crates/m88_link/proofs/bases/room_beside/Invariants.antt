@@ -1,6 +1,6 @@
 -- What is left and the bytes of the sections so far are the room.
 use Rattle.std.proofs.Common.{◌≡◌, ◌+◌, take}
-use Rattle.m88_link.specs.Inside.Sizes.{sections_size}
+use Rattle.m88_link.specs.Sizes.{sections_size}
 use Rattle.m88_link.proofs.bases.room_beside.Given as goal
 
 abbrev pub invariant-loop-section : goal.invariant-loop-section

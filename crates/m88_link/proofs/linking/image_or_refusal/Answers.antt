@@ -8,7 +8,7 @@ use Rattle.m88_base.specs.Placed.{count_among}
 use Rattle.m88_link.specs.Inside.Carried.{AreAlone}
 use Rattle.m88_link.specs.Layout.{extents_of, globals_of, references_of, spots_of}
 use Rattle.m88_link.specs.Refusal.{AreDisjoint, IsOverlap, duplicate, too_far, undefined}
-use Rattle.m88_link.specs.Inside.Sizes.{total_size}
+use Rattle.m88_link.specs.Sizes.{total_size}
 use Rattle.m88_base.specs.Image.{most_bytes}
 use Rattle.m88_link.proofs.Linkage.{linkable, refused_duplicate, refused_overlap, refused_reference, refused_too_large, spots_alone, spots_few}
 use Rattle.m88_link.proofs.linking.image_or_refusal.Goals as goal

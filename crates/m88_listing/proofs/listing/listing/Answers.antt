@@ -8,7 +8,7 @@ use Rattle.m88_base.specs.Lines.{lines_of, text_of_lines}
 use Rattle.m88_base.specs.Pages.{page_bytes}
 use Rattle.m88_parse.specs.declared.unit.Module.{Module}
 use Rattle.m88_link.specs.Bases.{Placement, first_text, stood_from, text_end, up_to_multiple}
-use Rattle.m88_link.specs.Inside.Sizes.{total_size}
+use Rattle.m88_link.specs.Sizes.{total_size}
 use Rattle.m88_link.specs.declared.object.Object.{Object}
 use Rattle.m88_asm.specs.Units.{based, section_length}
 use Rattle.m88_listing.specs.Entries.{AreInOrder, entries_in, labels_of, numbers_of}
