@@ -18,7 +18,7 @@ use Rattle.m88_isa.specs.declared.instr.Instr.{Instr}
 use Rattle.m88_isa.specs.declared.instr.Instr.TheVariants.{Imm, MemImm, Branch, BranchBit, BranchCond}
 use Rattle.m88_parse.specs.WellFormed.{Waits}
 use Rattle.m88_link.specs.Field.{distance, is_in_reach, is_near, patched_word}
-use Rattle.m88_asm.specs.Filled.{filled, half_of, words_of}
+use Rattle.m88_asm.specs.Filled.{half_of, with_field, words_of}
 
 -- a field of 16 bits behind a head
 half_law : (kind : Kind) (head t p imm : ℕ) → (kind ≡ Hi16) ⊎ (kind ≡ Lo16) → head % 2 ^ 16 ≡ 0 → imm ≡ 0
@@ -111,7 +111,7 @@ distance_bound t p = mod_below (t + (2 ^ 32 - p)) (2 ^ 32) (lit< tt)
 
 -- the filled instruction has the patched word
 pub field_law : (i : Instr) (kind : Kind) (t p : ℕ) → IsValid i → Waits i kind → t < 2 ^ 32 → is_in_reach kind t p ≡ true
-    → IsWord (filled i kind t p) (patched_word kind (word_of i) t p)
+    → IsWord (with_field i kind t p) (patched_word kind (word_of i) t p)
 field_law (Imm op d s1 imm) kind t p v w b r =
     (half_bound kind t b, half_law kind _ t p imm w.1 (omega arith) w.0)
 field_law (MemImm op d s1 imm) kind t p v w b r =

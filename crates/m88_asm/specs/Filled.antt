@@ -30,20 +30,20 @@ words_of d = if nat_lt d (2 ^ 31) then pos (d / 4) else negsuc ((2 ^ 32 - d) / 4
 
 -- an instruction at an address, its symbol replaced: an immediate is a half of the target, a branch counts the
 -- words from its address to the target
-abbrev pub filled : Instr → Kind → ℕ → ℕ → Instr
-filled (Imm op d s1 imm) kind target address = Imm op d s1 (half_of kind target)
-filled (MemImm op d s1 imm) kind target address = MemImm op d s1 (half_of kind target)
-filled (Branch link delayed words) kind target address = Branch link delayed (words_of (distance target address))
-filled (BranchBit set delayed bit s1 words) kind target address =
+abbrev pub with_field : Instr → Kind → ℕ → ℕ → Instr
+with_field (Imm op d s1 imm) kind target address = Imm op d s1 (half_of kind target)
+with_field (MemImm op d s1 imm) kind target address = MemImm op d s1 (half_of kind target)
+with_field (Branch link delayed words) kind target address = Branch link delayed (words_of (distance target address))
+with_field (BranchBit set delayed bit s1 words) kind target address =
     BranchBit set delayed bit s1 (words_of (distance target address))
-filled (BranchCond delayed mask s1 words) kind target address =
+with_field (BranchCond delayed mask s1 words) kind target address =
     BranchCond delayed mask s1 (words_of (distance target address))
-filled instr kind target address = instr
+with_field instr kind target address = instr
 
 -- an instruction at an address, its symbol replaced where it has one
 abbrev pub resolved : (List ℕ → ℕ) → ℕ → Instr → Option Fixup → Instr
 resolved value address instr None = instr
-resolved value address instr (Some f) = filled instr f.kind (target value f) address
+resolved value address instr (Some f) = with_field instr f.kind (target value f) address
 
 -- a word of `.word` whose symbol is still to come, and with its symbol replaced
 abbrev pub waiting_word : Value → ℕ
