@@ -7,7 +7,7 @@ use Rattle.m88_cli.specs.Answer.{Refuses}
 use Rattle.m88_cli.specs.Command.{Command}
 use Rattle.m88_cli.specs.Inside.Reply.{AnswersShown, IsRefusalOf, Replies}
 use Rattle.m88_board.specs.declared.glance.Glance.{Glance}
-use Rattle.m88_cli.specs.declared.reply.Reply.{Reply}
+use Rattle.m88_base.specs.declared.reply.Reply.{Reply}
 use Rattle.m88_cli.proofs.OneSource.{one_refusal, refused_not_accepted}
 
 -- the reply that refuses an input answers it

@@ -26,7 +26,7 @@ use Rattle.m88_cli.specs.Inside.Reply.{AnswersShown, WatchesFront}
 use Rattle.m88_cli.specs.Runs.{IsLoadedProgram, IsReport}
 use Rattle.m88_cli.specs.Settings.{Settings}
 use Rattle.m88_cli.specs.Watching.{FrontOfAccepted, SawFront, SawRun, Shown, ShownFront}
-use Rattle.m88_cli.specs.declared.reply.Reply.{Reply}
+use Rattle.m88_base.specs.declared.reply.Reply.{Reply}
 
 -- an outcome has as many events as the run
 events_of : (p : Program) (m : Moment) → (outcome_at p m).events ≡ m.events

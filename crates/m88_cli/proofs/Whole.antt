@@ -2,18 +2,18 @@
 use Rattle.std.proofs.Common.{◌≡◌, ℕ, ◌<◌, ◌≤◌, ◌+◌, List, [], Option, Some, None, Bool, true, false, inl, inr, refl, Result, Ok, Err, length, length-append, take, ap, sym, ◌∙◌, subst, arith}
 use Rattle.std.specs.Prelude.{◌≢◌, MatchBool, OnErr, is_err}
 use Rattle.std.specs.Io.KnownBytes.{Consumes, IsAtEnd}
-use Rattle.std.proofs.lemmas.List.{append-nil, length-take-le}
-use Rattle.m88_base.specs.Outside.{AppendsPart, TakesExactly}
+use Rattle.m88_base.proofs.Laws.{same_input}
+use Rattle.m88_base.specs.Outside.{TakesExactly}
 use Rattle.m88_cli.specs.Answer.{IsAnswerToAccepted, IsAnswer, IsAnswerToRefused, Refuses}
 use Rattle.m88_base.specs.Refusal.{Refusal, refusal_line}
 use Rattle.m88_board.specs.declared.glance.Glance.{Glance}
 use Rattle.m88_cli.specs.Inside.Reply.{Replies, WatchesReply}
 use Rattle.m88_cli.specs.Watching.{Shown, ShownIfAccepted}
-use Rattle.m88_cli.specs.declared.reply.Reply.{Reply}
-use Rattle.m88_cli.specs.Status.{Answers, IsOfReading, WritesNothing}
-use Rattle.m88_cli.specs.declared.status.Status.{Status}
-use Rattle.m88_cli.specs.declared.status.Status.TheVariants.{Done, Usage, SourceFault, SinkFault, Refused, Memory, TooLong}
-use Rattle.m88_cli.specs.Calls.{CarriedOut, GivesInput, HasInput, IsWhole}
+use Rattle.m88_base.specs.declared.reply.Reply.{Reply}
+use Rattle.m88_base.specs.Status.{Answers, IsOfReading, WritesNothing}
+use Rattle.m88_base.specs.declared.status.Status.{Status}
+use Rattle.m88_base.specs.declared.status.Status.TheVariants.{Done, Usage, SourceFault, SinkFault, Refused, Memory, TooLong}
+use Rattle.m88_cli.specs.Calls.{CarriedOut, GivesInput, HasInput}
 use Rattle.m88_cli.specs.Command.{Command, InputKind, Spells, no_input, is_read, kind_of, reads_input}
 use Rattle.m88_cli.specs.Kinds.{IsRefusedAs}
 use Rattle.m88_cli.specs.Limits.{most_input}
@@ -32,30 +32,6 @@ only_memory status e =
 -- a line that refuses has bytes
 pub refusal_some : (r : Refusal) → 0 < length (refusal_line r)
 refusal_some r = omega arith
-
--- where nothing was written, no text stands whole
-pub not_whole : (held : Option (List ℕ)) (text : List ℕ) → 0 < length text → IsWhole held held text → ⊥
-not_whole None text some whole = whole
-not_whole (Some old) text some whole =
-    let same : length old ≡ length old + length text = ap length whole ∙ length-append old text in
-    absurd (omega arith)
-
--- where a part was written, the text does not stand whole
-pub not_part : (old new : Option (List ℕ)) (text : List ℕ) → AppendsPart old new text → IsWhole old new text → ⊥
-not_part None new text part whole = whole
-not_part (Some old) None text part whole = whole
-not_part (Some old) (Some new) text part whole =
-    let front : length (take part.0 text) ≡ part.0 = length-take-le part.0 text (omega (arith, part.1)) in
-    let shorter : length new ≡ length old + length (take part.0 text) = ap length part.2 ∙ length-append old (take part.0 text) in
-    let longer : length new ≡ length old + length text = ap length whole ∙ length-append old text in
-    absurd (omega (arith, part.1))
-
--- a source that had an input, and has nothing left, gave that input
-pub same_input : (old new : Option (List ℕ)) (input given : List ℕ) → old ≡ Some input → new ≡ Some [] → Consumes old new given → given ≡ input
-same_input old new input given had left consumes =
-    let all : Consumes (Some input) (Some []) given =
-    subst (λ o. Consumes o (Some []) given) had (subst (λ o. Consumes old o given) left consumes) in
-    sym (append-nil given) ∙ sym all
 
 -- a source that tells its bytes and is at its end has nothing left
 pub whole_input : (old new : Option (List ℕ)) (input given : List ℕ) → old ≡ Some input → IsAtEnd new → Consumes old new given → given ≡ input

@@ -1,7 +1,7 @@
 -- What a call of the program did between its words, its source and its sink. Of a source or sink that doesn't tell its
 -- bytes nothing is said.
-use Rattle.std.specs.Prelude.{ℕ, ◌≡◌, ◌≤◌, ◌++◌, List, [], Option, Some, None, MatchBool, length}
-use Rattle.std.specs.Io.KnownBytes.{Consumes, IsAtEnd}
+use Rattle.std.specs.Prelude.{ℕ, ◌≡◌, ◌≤◌, List, [], Option, Some, MatchBool, length}
+use Rattle.m88_base.specs.Outside.{GivesAll}
 use Rattle.m88_cli.specs.Command.{Command, Spells, reads_input}
 use Rattle.m88_cli.specs.Limits.{most_input}
 
@@ -9,7 +9,7 @@ use Rattle.m88_cli.specs.Limits.{most_input}
 -- command that reads none has the empty input
 abbrev pub GivesInput : Command → Option (List ℕ) → Option (List ℕ) → List ℕ → Type 0
 GivesInput command before after input =
-    MatchBool (reads_input command) (Consumes before after input × IsAtEnd after) (input ≡ [])
+    MatchBool (reads_input command) (GivesAll before after input) (input ≡ [])
 
 -- a call carried a command out: the words spell it, the source gave it its input, the text is as told for that input,
 -- the sink was given the text as told, and the watch was shown what is told
@@ -38,9 +38,3 @@ pub record Given (words : List (List ℕ)) (before after : Option (List ℕ))
 abbrev pub HasInput : Command → Option (List ℕ) → List ℕ → Type 0
 HasInput command left input =
     MatchBool (reads_input command) ((left ≡ Some input) × (length input ≤ most_input)) (input ≡ [])
-
--- the sink holds what it held and the whole text behind it
-abbrev pub IsWhole : Option (List ℕ) → Option (List ℕ) → List ℕ → Type 0
-IsWhole (Some before) (Some after) text = after ≡ before ++ text
-IsWhole None after text = ⊥
-IsWhole (Some before) None text = ⊥

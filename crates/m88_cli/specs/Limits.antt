@@ -1,11 +1,8 @@
 -- The limits of inputs, runs, workloads and sessions; the constants of the code are held to them by the clauses that
 -- cite these.
-use Rattle.std.specs.Prelude.{ℕ, ◌^◌}
+use Rattle.std.specs.Prelude.{ℕ}
+pub use Rattle.m88_base.specs.Reading.{most_input}
 use Rattle.m88_board.specs.Kept.{most_retired}
-
--- the most bytes that an input may have: one mebibyte
-abbrev pub most_input : ℕ
-most_input = 2 ^ 20
 
 -- the most instructions that a run may be allowed: as many as a board can retire
 abbrev pub most_limit : ℕ

@@ -3,7 +3,7 @@ ghost use Rattle.std.specs.Prelude.{ℕ, ◌≡◌, ◌≤◌, IfErr, IfOk, List
 ghost use Rattle.std.specs.Io.KnownBytes.{Consumes, IsAtEnd};
 ghost use Rattle.m88_cli.specs.Command.{kind_of, reads_input};
 ghost use Rattle.m88_cli.specs.Inside.Inputs.{AreRecordsOf, IsKeptAs, IsMadeOf, IsReadFrom, IsRecordsRead, IsText};
-ghost use Rattle.m88_cli.specs.Inside.Reading.{ReadsSource};
+ghost use Rattle.m88_base.specs.Reading.{ReadsSource};
 ghost use Rattle.m88_cli.specs.Kept.{command_of};
 ghost use Rattle.m88_cli.specs.Limits.{most_input};
 

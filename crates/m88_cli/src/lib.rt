@@ -14,7 +14,6 @@ mod input;
 mod job;
 mod program;
 mod reply;
-mod status;
 
 // The script of the monitor.
 mod script;
@@ -45,5 +44,5 @@ mod monitor;
 pub use commands::Command;
 pub use grammar::command;
 pub use limits::{MOST_FRAMES, MOST_INPUT, MOST_LIMIT, MOST_STATEMENTS};
+pub use m88_base::Status;
 pub use program::m88;
-pub use status::Status;

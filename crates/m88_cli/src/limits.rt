@@ -1,8 +1,7 @@
 //! The limits of inputs, runs, workloads and sessions; those of a script, and of the pages and letters that a command
 //! names, stand where they are read.
 
-/// The most bytes that an input may have: one mebibyte.
-pub const MOST_INPUT: usize = 1_048_576;
+pub use m88_base::MOST_INPUT;
 
 /// The most instructions that a run may be allowed.
 pub const MOST_LIMIT: u32 = 1_000_000;

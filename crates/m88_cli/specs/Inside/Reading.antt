@@ -1,9 +1,5 @@
--- What is read: a value of a text or of words, and the bytes of a source.
-use Rattle.std.specs.Prelude.{ℕ, ◌≡◌, ◌≢◌, ◌+◌, ◌≤◌, List, Option, IfSome, MatchOption, Some, Result, Err, OnOk}
-use Rattle.m88_base.specs.Calls.{CallsWithin}
-use Rattle.m88_base.specs.Causes.{Rose}
-use Rattle.m88_base.specs.Outside.{TakesAtMost, TakesExactly}
-use Rattle.m88_cli.specs.Limits.{most_input}
+-- What is read: a value of a text or of words.
+use Rattle.std.specs.Prelude.{ℕ, ◌≡◌, ◌≤◌, List, Option, IfSome, MatchOption, Some}
 use Rattle.m88_cli.specs.Numbers.{IsShortNumber}
 
 -- a value is read of a text or of words that may say one: what is found they say, and what they say is found
@@ -25,14 +21,3 @@ pub record ReadsNumber (base most_digits most : ℕ) (text : List ℕ) (result :
   pub found : IfSome result (IsShortNumber base most_digits text)
   pub bound : IfSome result (λ n. n ≤ most)
   pub only : (n : ℕ) → n ≤ most → IsShortNumber base most_digits text n → result ≡ Some n
-
--- a source is read, which may tell its bytes left, its calls and its faults: there were no more calls than an input may
--- take; where a value comes of it there was no fault; the one error says that there was; the other that the input is too
--- long, and then one byte more was taken than it may have, and else no more than that
-pub record ReadsSource {S T E : Type 0} (failed long : E) (left : S → Option (List ℕ)) (calls : S → Option ℕ)
-    (faults : S → ℕ) (old new : S) (result : Result T E) : Type 0 where
-  pub within : CallsWithin (most_input + 2) (calls old) (calls new)
-  pub clean : OnOk result (faults new ≡ faults old)
-  pub fault : result ≡ Err failed → Rose (faults old) (faults new)
-  pub too_long : result ≡ Err long → TakesExactly (left old) (left new) (most_input + 1)
-  pub not_too_long : result ≢ Err long → TakesAtMost (left old) (left new) most_input

@@ -1,16 +1,17 @@
 -- What the reply to an input says, and what a watch was shown on the way to it.
 use Rattle.std.specs.Prelude.{ℕ, ◌≡◌, ◌⊎◌, List, Option, Result, IfOk, MatchBool, OnErr, false}
 use Rattle.m88_base.specs.Refusal.{Refusal, refusal_line}
+use Rattle.m88_base.specs.Reply.{AnswersAs}
+use Rattle.m88_base.specs.declared.reply.Reply.{Reply}
 use Rattle.m88_board.specs.declared.glance.Glance.{Glance}
 use Rattle.m88_cli.specs.Answer.{IsAnswerToAccepted, IsAnswerToRefused}
 use Rattle.m88_cli.specs.Command.{Command}
 use Rattle.m88_cli.specs.Watching.{FrontOfAccepted, Shown}
-use Rattle.m88_cli.specs.declared.reply.Reply.{Reply}
 
 -- the reply's text answers an input that is accepted or not, as the reply says
 abbrev pub Replies : Command → List ℕ → Reply → Type 0
 Replies command input r =
-    MatchBool r.accepted (IsAnswerToAccepted command input r.text.items) (IsAnswerToRefused command input r.text.items)
+    AnswersAs (IsAnswerToAccepted command input) (IsAnswerToRefused command input) r
 
 -- a watch, which tells what it was shown, was shown the whole of a command whose reply accepts the input, and is as it
 -- was where the reply refuses it

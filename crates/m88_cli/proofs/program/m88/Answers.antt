@@ -1,6 +1,6 @@
 -- A refusal stands whole only where it was written whole; where the sink failed a part of the text was written.
 use Rattle.std.proofs.Common.{◌≡◌, Err, inl, inr, refl, ap, sym, ◌∙◌, subst}
-use Rattle.m88_base.proofs.Laws.{calls_none}
+use Rattle.m88_base.proofs.Laws.{calls_none, not_part, not_whole}
 use Rattle.m88_base.specs.Outside.{AppendsPart}
 use Rattle.m88_cli.specs.Answer.{Accepts}
 use Rattle.m88_cli.specs.Command.{reads_input}
@@ -10,7 +10,7 @@ use Rattle.m88_cli.proofs.BridgeListings.{listed_builds_alike}
 use Rattle.m88_cli.proofs.BridgeTraces.{traced_is_checked}
 use Rattle.m88_cli.proofs.OneScript as scripts
 use Rattle.m88_cli.proofs.OneSource.{one_verdict, refused_not_accepted}
-use Rattle.m88_cli.proofs.Whole.{answer_of, line_of_reply, not_part, not_whole, of_err, only_memory, refusal_some, reply_given, reply_whole, shown_if, unanswered, writes_text, wrote_nothing}
+use Rattle.m88_cli.proofs.Whole.{answer_of, line_of_reply, of_err, only_memory, refusal_some, reply_given, reply_whole, shown_if, unanswered, writes_text, wrote_nothing}
 use Rattle.m88_cli.proofs.program.m88.Goals as goal
 
 pub returns-in_default-clause-refusal : goal.returns-in_default-clause-refusal
