@@ -5,8 +5,8 @@
 #[cfg(test)]
 mod tests;
 
-use m88_base::{StdSink, StdSource};
-use m88_listing::{ListStatus, MOST_SOURCE, m88list};
+use m88_base::{MOST_INPUT, Status, StdSink, StdSource};
+use m88_listing::m88list;
 use std::env;
 use std::process::ExitCode;
 
@@ -27,27 +27,23 @@ fn main(rt: HostRuntime) -> ExitCode {
             let mut sink = StdSink::new(rt.stdout());
             m88list(rt.alloc(), words.as_slice(), &mut source, &mut sink)
         }
-        Err(_) => ListStatus::Memory,
+        Err(_) => Status::Memory,
     };
     tell(&rt, status);
     ExitCode::from(status.number())
 }
 
 /// Tells a person what an answer means.
-fn tell(rt: &HostRuntime, status: ListStatus) {
+fn tell(rt: &HostRuntime, status: Status) {
     let _ = match status {
-        ListStatus::Done => Ok(()),
-        ListStatus::Usage => eprintln!(rt;
+        Status::Done => Ok(()),
+        Status::Usage => eprintln!(rt;
             "m88list {VERSION}: it takes no words and opens no file\nusage: m88list < SOURCE > LISTING"
         ),
-        ListStatus::SourceFault => eprintln!(rt; "m88list: standard input can't be read"),
-        ListStatus::SinkFault => eprintln!(rt; "m88list: standard output can't be written"),
-        ListStatus::Refused => eprintln!(rt;
-            "m88list: the source is refused; the listing says where"
-        ),
-        ListStatus::Memory => eprintln!(rt; "m88list: there is not enough memory"),
-        ListStatus::TooLong => {
-            eprintln!(rt; "m88list: the source has more than {MOST_SOURCE} bytes")
-        }
+        Status::SourceFault => eprintln!(rt; "m88list: standard input can't be read"),
+        Status::SinkFault => eprintln!(rt; "m88list: standard output can't be written"),
+        Status::Refused => eprintln!(rt; "m88list: the source is refused; the listing says where"),
+        Status::Memory => eprintln!(rt; "m88list: there is not enough memory"),
+        Status::TooLong => { eprintln!(rt; "m88list: the source has more than {MOST_INPUT} bytes") }
     };
 }

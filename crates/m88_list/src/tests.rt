@@ -1,8 +1,8 @@
 //! What no clause says of the calls of the tool chain and no row of `m88_rows` holds. Here stand listings whose source or
 //! sink fails; each other file has a subject of its own.
 
-use m88_base::{MemSink, MemSource};
-use m88_listing::{ListStatus, m88list};
+use m88_base::{MemSink, MemSource, Status};
+use m88_listing::m88list;
 use std::alloc::Global;
 use std::test::Fail;
 
@@ -48,7 +48,7 @@ fn listed(
     text: &[u8],
     reading: u32,
     writing: u32,
-) -> Result<(ListStatus, Vec<u8>), Fail> {
+) -> Result<(Status, Vec<u8>), Fail> {
     let mut source = MemSource::new(alloc, text, 4096, &[reading])?;
     let mut sink = MemSink::new(alloc, 4096, 64, &[writing])?;
     let status = m88list(alloc, &[], &mut source, &mut sink);
@@ -58,11 +58,11 @@ fn listed(
 
 #[test]
 fn failures(rt: HostRuntime) -> Result<(), Fail> {
-    let rows: [(u32, u32, ListStatus, usize); 4] = [
-        (0, NEVER, ListStatus::SourceFault, 0),
-        (1, NEVER, ListStatus::SourceFault, 0),
-        (NEVER, 0, ListStatus::SinkFault, 0),
-        (NEVER, 1, ListStatus::SinkFault, 64),
+    let rows: [(u32, u32, Status, usize); 4] = [
+        (0, NEVER, Status::SourceFault, 0),
+        (1, NEVER, Status::SourceFault, 0),
+        (NEVER, 0, Status::SinkFault, 0),
+        (NEVER, 1, Status::SinkFault, 64),
     ];
     for (reading, writing, status, count) in rows {
         let (answer, held) = listed(rt.alloc(), LABELS, reading, writing)?;

@@ -1,6 +1,6 @@
 -- The statements of a unit that is accepted fit, and what is kept of them is what they put into the unit's image.
-use Rattle.std.proofs.Common.{◌≡◌, ℕ, zero, suc, ◌+◌, ◌-◌, ◌<◌, ◌≤◌, ◌^◌, Bool, true, false, inl, inr, List, [], ◌∷◌, ◌++◌, length, map, filter, get_or, refl, sym, ap, ◌∙◌, arith, Option, Some, None}
-use Rattle.std.specs.Prelude.{◌==◌, IfSome, flat_map, nat_lt, slice_get, unwrap_or, if◌then◌else◌}
+use Rattle.std.proofs.Common.{◌≡◌, ℕ, zero, suc, ◌+◌, ◌-◌, ◌<◌, ◌≤◌, ◌^◌, Bool, true, false, inl, inr, List, [], ◌∷◌, ◌++◌, length, map, filter, get_or, refl, sym, ap, ◌∙◌, subst, arith, Option, Some, None}
+use Rattle.std.specs.Prelude.{◌==◌, IfSome, IsSome, flat_map, nat_lt, slice_get, unwrap_or, if◌then◌else◌}
 use Rattle.std.specs.List.{AllByRecursion, range_with_len}
 use Rattle.std.specs.Option.{option_map}
 use Rattle.std.proofs.lemmas.Bool.{cases_Bool, cond-true, cond-false, eqb-true, eqb-false, ltb-false, or_parts, lt-ltb, le-ltb}
@@ -127,34 +127,53 @@ unit_fits u image well accepted own =
     modules_fit (unit_layout u).globals image (based u) own.is_image (each_fills u well accepted.linkable)
     (each_clean _ _ u.modules accepted.assembled) (all_found u image accepted own)
 
--- and what is kept of them lies among the addresses
-one_slot : (b : Placement Module) (r : Located) → StandsWithin b r → AllByRecursion IsSlot (slots_at b r)
-one_slot b r fits = by (length_of r == 0) refl
+-- and what is kept of them lies among the addresses, where bytes are found
+has_each : (globals : List Symbol) (b : Placement Module) (found : ℕ → Option ℕ) (r : Located) → IsFound globals b found r
+    → (k : ℕ) → k < length_of r → IsSome (found (address_in b r + k))
+has_each globals b found r is k l =
+    let bytes = bytes_of globals b r in
+    let long : length bytes ≡ length_of r = length-filled_bytes (value_in_module globals b) (address_in b r) (place_of r) r.statement.body in
+    subst IsSome (sym (is k (get_or bytes k 0) (slice_get-get_or bytes k 0 (omega (arith, long, l))))) refl
+
+one_slot : (globals : List Symbol) (b : Placement Module) (found : ℕ → Option ℕ) (r : Located) → StandsWithin b r → IsFound globals b found r
+    → AllByRecursion (IsSlot found) (slots_at b r)
+one_slot globals b found r fits is = by (length_of r == 0) refl
   where
     by : (t : Bool) → (length_of r == 0) ≡ t
-        → AllByRecursion IsSlot (if t then [] else record { line = r.statement.line; at = address_in b r; len = length_of r; counted = is_counted r.statement.body } ∷ [])
+        → AllByRecursion (IsSlot found) (if t then [] else record { line = r.statement.line; at = address_in b r; len = length_of r; counted = is_counted r.statement.body } ∷ [])
     by true e = tt
     by false e =
         let not : (length_of r ≡ 0 → ⊥) = eqb-false (length_of r) 0 e in
         let some : 0 < length_of r = some_of (length_of r) not in
-        ((some, fits.within some), tt)
+        (record { some = some; within = fits.within some; has = has_each globals b found r is }, tt)
       where
         some_of : (n : ℕ) → (n ≡ 0 → ⊥) → 0 < n
         some_of zero differs = absurd (differs refl)
         some_of (suc n) differs = omega arith
 
-both_slots : (xs ys : List Slot) → AllByRecursion IsSlot xs → AllByRecursion IsSlot ys → AllByRecursion IsSlot (xs ++ ys)
-both_slots [] ys p q = q
-both_slots (x ∷ xs) ys p q = (p.0, both_slots xs ys p.1 q)
+both_slots : (found : ℕ → Option ℕ) (xs ys : List Slot) → AllByRecursion (IsSlot found) xs → AllByRecursion (IsSlot found) ys
+    → AllByRecursion (IsSlot found) (xs ++ ys)
+both_slots found [] ys p q = q
+both_slots found (x ∷ xs) ys p q = (p.0, both_slots found xs ys p.1 q)
 
-rows_slots : (b : Placement Module) (c : Counters) (xs : List Statement) → AllFit b c xs → AllByRecursion IsSlot (slots_from b c xs)
-rows_slots b c [] fit = tt
-rows_slots b c (x ∷ xs) fit = both_slots (slots_at b (record { before = c; statement = x })) (slots_from b (after c x.body) xs)
-    (one_slot b (record { before = c; statement = x }) fit.0) (rows_slots b (after c x.body) xs fit.1)
+rows_slots : (globals : List Symbol) (b : Placement Module) (found : ℕ → Option ℕ) (c : Counters) (xs : List Statement) → AllFit b c xs
+    → AreFound globals b found c xs → AllByRecursion (IsSlot found) (slots_from b c xs)
+rows_slots globals b found c [] fit is = tt
+rows_slots globals b found c (x ∷ xs) fit is =
+    let r : Located = record { before = c; statement = x } in
+    both_slots found (slots_at b r) (slots_from b (after c x.body) xs) (one_slot globals b found r fit.0 is.0)
+    (rows_slots globals b found (after c x.body) xs fit.1 is.1)
 
-pub are_slots : (bs : List (Placement Module)) → AllByRecursion ModuleFits bs → AllByRecursion IsSlot (slots_of bs)
-are_slots [] fit = tt
-are_slots (b ∷ bs) fit = both_slots (slots_from b at_begin b.part.statements) (slots_of bs) (rows_slots b at_begin b.part.statements fit.0) (are_slots bs fit.1)
+are_slots : (globals : List Symbol) (found : ℕ → Option ℕ) (bs : List (Placement Module)) → AllByRecursion ModuleFits bs
+    → EachBased (λ b. AreFound globals b found at_begin b.part.statements) bs → AllByRecursion (IsSlot found) (slots_of bs)
+are_slots globals found [] fit is = tt
+are_slots globals found (b ∷ bs) fit is = both_slots found (slots_from b at_begin b.part.statements) (slots_of bs)
+    (rows_slots globals b found at_begin b.part.statements fit.0 is.0) (are_slots globals found bs fit.1 is.1)
+
+pub unit_slots : (u : Source) (image : ProgramImage) → IsWellFormed u → IsAcceptedUnit u → IsUnitImage u image
+    → AllByRecursion (IsSlot (byte_at image)) (slots_of (based u))
+unit_slots u image well accepted own =
+    are_slots (unit_layout u).globals (byte_at image) (based u) (unit_fits u image well accepted own) (all_found u image accepted own)
 
 -- the rows of a unit are what is kept, with the bytes that are found
 found_same : (found : ℕ → Option ℕ) (at n : ℕ) (bytes : List ℕ) → ((k v : ℕ) → slice_get bytes k ≡ Some v → found (at + (n + k)) ≡ Some v)

@@ -1,13 +1,14 @@
--- What is kept of a statement.
-use Rattle.std.proofs.Common.{◌≡◌, ℕ, ◌<◌, Bool, List, [], ◌∷◌, sym, ap, ◌∙◌, arith}
-use Rattle.std.specs.Prelude.{◌==◌}
-use Rattle.std.proofs.lemmas.Bool.{cond-true, cond-false, eq-eqb, ne_eqb}
+-- What is kept of a statement, and its bytes in the image.
+use Rattle.std.proofs.Common.{◌≡◌, ℕ, zero, suc, ◌+◌, ◌<◌, ◌≤◌, Bool, true, false, List, [], ◌∷◌, length, map, take, refl, sym, ap, subst, ◌∙◌, arith, Option, Some, None}
+use Rattle.std.specs.Prelude.{◌==◌, IsSome, nat_lt, slice_get, unwrap_or}
+use Rattle.std.specs.List.{range_with_len}
+use Rattle.std.proofs.lemmas.Bool.{cond-true, cond-false, eq-eqb, ltb-false, ltb-true, ne_eqb}
 use Rattle.m88_asm.specs.Counters.{Located, length_of}
 use Rattle.m88_link.specs.Bases.{Placement}
 use Rattle.m88_parse.specs.declared.unit.Module.{Module}
 use Rattle.m88_asm.specs.Units.{address_in}
 use Rattle.m88_listing.specs.Rows.{is_counted}
-use Rattle.m88_listing.specs.Inside.Slots.{slots_at}
+use Rattle.m88_listing.specs.Inside.Slots.{found_bytes, slots_at}
 use Rattle.m88_listing.specs.declared.slots.Slot.{Slot}
 
 same_slot : (line at other n m : ℕ) (counted kind : Bool) → at ≡ other → n ≡ m → counted ≡ kind
@@ -26,3 +27,26 @@ slots_some b r at len counted some is here kind =
 
 pub slots_none : (b : Placement Module) (r : Located) (len : ℕ) → len ≡ 0 → len ≡ length_of r → [] ≡ slots_at b r
 slots_none b r len none is = sym (cond-true (length_of r == 0) [] _ (eq-eqb (length_of r) 0 (sym is ∙ none)))
+
+-- the bytes that are found from an address on are the first of those that stand there in a row
+front_from : (found : ℕ → Option ℕ) (at n len : ℕ) (rest : List ℕ) → ((k : ℕ) → k < length rest → found (at + (n + k)) ≡ slice_get rest k)
+    → len ≤ length rest → take len rest ≡ map (λ k. unwrap_or (found (at + k)) 0) (range_with_len n len)
+front_from found at n zero rest there l = refl
+front_from found at n (suc len) [] there l = absurd (omega (arith, l))
+front_from found at n (suc len) (x ∷ rest) there l =
+    let here : found (at + n) ≡ Some x = ap found (omega arith) ∙ there 0 (omega arith) in
+    ap (λ xs. x ∷ xs) (front_from found at (n + 1) len rest (λ k m. ap found (omega arith) ∙ there (suc k) (omega (arith, m))) (omega (arith, l)))
+    ∙ ap (λ (o : Option ℕ). unwrap_or o 0 ∷ map (λ k. unwrap_or (found (at + k)) 0) (range_with_len (n + 1) len)) (sym here)
+
+pub front_found : (found : ℕ → Option ℕ) (at len : ℕ) (rest : List ℕ) → ((k : ℕ) → k < length rest → found (at + k) ≡ slice_get rest k)
+    → len ≤ length rest → take len rest ≡ found_bytes found at len
+front_found found at len rest there l = front_from found at 0 len rest (λ k m. ap found (omega arith) ∙ there k m) l
+
+-- as many stand there as bytes are found at the addresses from it on
+pub has_all : (found : ℕ → Option ℕ) (at len : ℕ) (rest : List ℕ) → found (at + length rest) ≡ None → ((k : ℕ) → k < len → IsSome (found (at + k)))
+    → len ≤ length rest
+has_all found at len rest end has = by (nat_lt (length rest) len) refl
+  where
+    by : (t : Bool) → nat_lt (length rest) len ≡ t → len ≤ length rest
+    by true e = absurd (let clash : IsSome {T = ℕ} None = subst IsSome end (has (length rest) (ltb-true (length rest) len e)) in cc)
+    by false e = ltb-false (length rest) len e

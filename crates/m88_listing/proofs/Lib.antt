@@ -2,7 +2,7 @@
 pub mod Texts
 pub mod Lines
 pub mod NextNumber
-pub mod Bases
+pub mod Standings
 pub mod Keeping
 pub mod Ordered
 pub mod Fitting

@@ -1,13 +1,13 @@
 -- The lines of a source that are left behind some of them.
-use Rattle.std.proofs.Common.{◌≡◌, ℕ, zero, suc, ◌+◌, ◌-◌, ◌<◌, ◌≤◌, List, [], ◌∷◌, ◌++◌, length, take, drop, refl, sym, ap, ◌∙◌, append_assoc, arith, add-one, take_all, drop_of_length-le}
-use Rattle.std.specs.Prelude.{◌==◌, false, decimal, flat_map, slice_index_or}
+use Rattle.std.proofs.Common.{◌≡◌, ℕ, zero, suc, ◌+◌, ◌-◌, ◌<◌, ◌≤◌, List, [], ◌∷◌, ◌++◌, length, length-drop, take, drop, refl, sym, ap, ◌∙◌, append_assoc, arith, add-one, take_all, drop_of_length-le}
+use Rattle.std.specs.Prelude.{◌==◌, ◌&&◌, Bool, false, true, decimal, if◌then◌else◌, flat_map, slice_index_or}
 use Rattle.std.specs.List.{enumerate_from}
-use Rattle.std.proofs.lemmas.Grind.{common_steps}
+use Rattle.std.proofs.lemmas.Bool.{eqb-true}
 use Rattle.std.proofs.lemmas.List.{append-nil}
 use Rattle.std.proofs.lemmas.List.FromFn.{length-enumerate_from}
 use Rattle.m88_base.specs.Refused.{refused_line}
-use Rattle.m88_base.specs.Lines.{line_end, lines_of}
-use Rattle.m88_listing.specs.Columns.{at_right, bare_line, blanks}
+use Rattle.m88_base.specs.Lines.{begins_with_lf, line_end, lines_of, on_first_line}
+use Rattle.m88_listing.specs.Columns.{at_right, bare_line, columns, no_address}
 use Rattle.m88_listing.specs.Refused.{bare_text, mark_line, refused_text}
 
 -- one line more is dropped
@@ -32,6 +32,31 @@ pub no_lines : (rest : List ℕ) → length rest ≡ 0 → lines_of rest ≡ []
 unfolding lines_of
 no_lines [] e = refl
 no_lines (b ∷ bs) e = absurd (omega (arith, e))
+
+-- and one that isn't empty has a line
+some_lines : (rest : List ℕ) → 0 < length rest → 0 < length (lines_of rest)
+unfolding lines_of
+some_lines [] l = l
+some_lines (b ∷ bs) l = by (b == 10) (b == 13 && begins_with_lf bs) (λ e. some_lines bs (begun (b == 13) bs e))
+  where
+    begun : (x : Bool) (bs : List ℕ) → (x && begins_with_lf bs) ≡ true → 0 < length bs
+    begun true [] e = absurd (cc)
+    begun false [] e = absurd (cc)
+    begun x (y ∷ ys) e = omega arith
+
+    first : (xs : List (List ℕ)) → 0 < length (on_first_line b xs)
+    first [] = omega arith
+    first (x ∷ xs) = omega arith
+
+    by : (s t : Bool) → (t ≡ true → 0 < length (lines_of bs))
+        → 0 < length (if s then [] ∷ lines_of bs else (if t then lines_of bs else on_first_line b (lines_of bs)))
+    by true t h = omega arith
+    by false true h = h refl
+    by false false h = first (lines_of bs)
+
+-- where some of it is left behind lines, it has more lines
+pub more_lines : (source rest : List ℕ) (n : ℕ) → lines_of rest ≡ drop n (lines_of source) → 0 < length rest → n < length (lines_of source)
+more_lines source rest n is some = omega (arith, some_lines rest some, ap length is ∙ length-drop n (lines_of source))
 
 -- a source that begins with the end of a line begins with an empty line
 pub empty_first : (rest behind : List ℕ) → rest ≡ 10 ∷ behind → lines_of rest ≡ [] ∷ lines_of behind
@@ -124,18 +149,14 @@ refused_whole old source rest t1 t2 t3 new marked reason line index column most 
     ∙ append_assoc old ((a ++ mark) ++ told) (bare_text (drop line (enumerate_from 1 lines)))
 
 -- a line without address and bytes, empty and not
-pub bare_empty : (number : ℕ) (line : List ℕ) → length line ≡ 0 → bare_line number line ≡ at_right 7 (decimal number)
-bare_empty number [] e = refl
-bare_empty number (byte ∷ line) e = absurd (omega (arith, e))
-
-pub bare_written : (n : ℕ) (line old a b c new : List ℕ) → (length line == 0) ≡ false → a ≡ old ++ at_right 7 (decimal n) → b ≡ a ++ blanks 30
+pub bare_written : (n : ℕ) (line old head b c new : List ℕ) → (length line == 0) ≡ false → head ≡ columns n no_address [] → b ≡ old ++ head
     → c ≡ b ++ line → new ≡ c ++ line_end → new ≡ old ++ (bare_line n line ++ line_end)
-bare_written n [] old a b c new some e1 e2 e3 e4 = absurd (cc)
-bare_written n (byte ∷ line) old a b c new some e1 e2 e3 e4 =
-    e4
-    ∙ ap (λ xs. xs ++ line_end) (e3 ∙ ap (λ xs. xs ++ byte ∷ line) (e2 ∙ ap (λ xs. xs ++ blanks 30) e1))
-    ∙ regroup old (at_right 7 (decimal n)) (blanks 2) (blanks 8) (blanks 16) (byte ∷ line) line_end
-  where
-    regroup : (a b two eight wide d e : List ℕ)
-        → (((a ++ b) ++ (two ++ eight ++ two ++ wide ++ two)) ++ d) ++ e ≡ a ++ (((b ++ two ++ eight ++ two ++ wide ++ two) ++ d) ++ e)
-    regroup a b two eight wide d e = grind (arith, common_steps)
+bare_written n [] old head b c new some is e1 e2 e3 = absurd (cc)
+bare_written n (byte ∷ line) old head b c new some is e1 e2 e3 =
+    e3 ∙ ap (λ xs. xs ++ line_end) (e2 ∙ ap (λ xs. xs ++ byte ∷ line) (e1 ∙ ap (λ h. old ++ h) is) ∙ append_assoc old (columns n no_address []) (byte ∷ line))
+    ∙ append_assoc old (columns n no_address [] ++ byte ∷ line) line_end
+
+pub empty_written : (n : ℕ) (line old own new : List ℕ) → (length line == 0) ≡ true → own ≡ at_right 7 (decimal n) ++ line_end → new ≡ old ++ own
+    → new ≡ old ++ (bare_line n line ++ line_end)
+empty_written n [] old own new none is e = e ∙ ap (λ t. old ++ t) is
+empty_written n (byte ∷ line) old own new none is e = absurd (omega (arith, eqb-true (length (byte ∷ line)) 0 none))

@@ -1,11 +1,11 @@
 -- The column of a number, and that of the next one.
 use Rattle.std.proofs.Common.{◌≡◌, ℕ, zero, suc, ◌+◌, ◌-◌, ◌/◌, ◌%◌, ◌^◌, ◌<◌, ◌≤◌, List, [], ◌∷◌, ◌++◌, length, get_or, set, refl, sym, ap, ◌∙◌, append_assoc, arith, length-append}
 use Rattle.std.specs.Prelude.{decimal}
+use Rattle.std.proofs.lemmas.Grind.{common_steps}
 use Rattle.std.proofs.lemmas.Fmt.{decimal_digit, decimal_step, length-decimal-le}
 use Rattle.std.proofs.lemmas.List.{length-replicate}
 use Rattle.std.proofs.Math.Seq.{get_or-append_seam, set-append_seam}
-use Rattle.m88_base.specs.Lines.{line_end}
-use Rattle.m88_listing.specs.Columns.{at_right, blank, blanks}
+use Rattle.m88_listing.specs.Columns.{at_left, at_right, blank, blanks, columns, no_address}
 
 -- what stands before the last digit
 abbrev front : ℕ → List ℕ
@@ -43,22 +43,34 @@ parted n (suc tens) e small =
     more_digits n (omega (arith, e)) (omega (arith, small))
     ∙ ap (λ q. (blanks (6 - length (decimal q)) ++ decimal q) ++ (48 + n % 10) ∷ []) (sym e)
 
--- where the last digit is below 9, one more there is the next number
-pub counted : (cell : List ℕ) (n : ℕ) → n + 1 < 10 ^ 7 → cell ≡ at_right 7 (decimal n) ++ line_end → get_or cell 6 0 < 57
-    → set cell 6 (get_or cell 6 0 + 1) ≡ at_right 7 (decimal (n + 1)) ++ line_end
-counted cell n small e below =
+-- the last digit of the number in a line that begins with its column
+pub digit_at : (cell tail : List ℕ) (n : ℕ) → n < 10 ^ 7 → cell ≡ at_right 7 (decimal n) ++ tail → get_or cell 6 0 ≡ 48 + n % 10
+digit_at cell tail n small e =
     let f = front (n / 10) in
     let d = 48 + n % 10 in
     let six : length f ≡ 6 = wide (n / 10) (omega (arith, small)) in
-    let is : cell ≡ f ++ d ∷ line_end =
-    e ∙ ap (λ t. t ++ line_end) (parted n (n / 10) refl (omega (arith, small))) ∙ append_assoc f (d ∷ []) line_end in
-    let last : get_or cell 6 0 ≡ d =
-    ap (λ c. get_or c 6 0) is ∙ ap (λ k. get_or (f ++ d ∷ line_end) k 0) (sym six) ∙ get_or-append_seam f d line_end 0 in
+    let is : cell ≡ f ++ d ∷ tail = e ∙ ap (λ t. t ++ tail) (parted n (n / 10) refl small) ∙ append_assoc f (d ∷ []) tail in
+    ap (λ c. get_or c 6 0) is ∙ ap (λ k. get_or (f ++ d ∷ tail) k 0) (sym six) ∙ get_or-append_seam f d tail 0
+
+-- where it is below 9, one more there is the next number
+pub counted : (cell tail : List ℕ) (n d : ℕ) → n + 1 < 10 ^ 7 → d ≡ 48 + n % 10 → d < 57 → cell ≡ at_right 7 (decimal n) ++ tail
+    → set cell 6 (d + 1) ≡ at_right 7 (decimal (n + 1)) ++ tail
+counted cell tail n d small last below e =
+    let f = front (n / 10) in
+    let six : length f ≡ 6 = wide (n / 10) (omega (arith, small)) in
+    let is : cell ≡ f ++ d ∷ tail =
+    e ∙ ap (λ t. t ++ tail) (parted n (n / 10) refl (omega (arith, small)) ∙ ap (λ x. f ++ x ∷ []) (sym last)) ∙ append_assoc f (d ∷ []) tail in
     let next : at_right 7 (decimal (n + 1)) ≡ f ++ (48 + (n + 1) % 10) ∷ [] = parted (n + 1) (n / 10) (omega (arith, last, below)) small in
-    ap (λ x. set cell 6 (x + 1)) last
-    ∙ ap (λ c. set c 6 (d + 1)) is
-    ∙ ap (λ k. set (f ++ d ∷ line_end) k (d + 1)) (sym six)
-    ∙ set-append_seam f d line_end (d + 1)
-    ∙ ap (λ x. f ++ x ∷ line_end) (omega (arith, last, below))
-    ∙ sym (append_assoc f ((48 + (n + 1) % 10) ∷ []) line_end)
-    ∙ ap (λ t. t ++ line_end) (sym next)
+    ap (λ c. set c 6 (d + 1)) is
+    ∙ ap (λ k. set (f ++ d ∷ tail) k (d + 1)) (sym six)
+    ∙ set-append_seam f d tail (d + 1)
+    ∙ ap (λ x. f ++ x ∷ tail) (omega (arith, last, below))
+    ∙ sym (append_assoc f ((48 + (n + 1) % 10) ∷ []) tail)
+    ∙ ap (λ t. t ++ tail) (sym next)
+
+-- the columns of a line that gives no bytes are its number and blanks
+regroup : (a b c d e f : List ℕ) → a ++ (b ++ (c ++ (d ++ (e ++ f)))) ≡ ((((a ++ b) ++ c) ++ d) ++ e) ++ f
+regroup a b c d e f = grind (arith, common_steps)
+
+pub head_is : (n : ℕ) → at_right 7 (decimal n) ++ blanks 30 ≡ columns n no_address []
+head_is n = regroup (at_right 7 (decimal n)) (blanks 2) no_address (blanks 2) (at_left 16 []) (blanks 2)

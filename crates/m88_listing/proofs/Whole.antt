@@ -1,12 +1,14 @@
--- The whole text of a listing, and where a text stands whole behind what a sink held.
-use Rattle.std.proofs.Common.{◌≡◌, ℕ, ◌<◌, ◌≤◌, ◌+◌, List, [], ◌++◌, Option, Some, None, Bool, true, false, inl, inr, Result, Ok, Err, length, length-append, take, drop, ap, sym, ◌∙◌, subst, arith}
+-- The whole text of a listing, and what a reply says of a source that has nothing left.
+use Rattle.std.proofs.Common.{◌≡◌, ℕ, ◌<◌, ◌≤◌, ◌+◌, List, [], ◌++◌, Option, Some, None, Bool, true, false, inl, inr, Result, Ok, Err, length, length-append, take, drop, ap, refl, sym, ◌∙◌, subst, arith}
 use Rattle.std.specs.Prelude.{MatchBool, OnErr, codes, is_err}
 use Rattle.std.specs.Io.KnownBytes.{Consumes}
 use Rattle.std.proofs.lemmas.Bool.{ltb-false}
 use Rattle.std.proofs.lemmas.List.{append-nil, length-take-le}
 use Rattle.m88_base.specs.Image.{ProgramImage, byte_at, most_bytes}
 use Rattle.m88_base.specs.Lines.{line_end, lines_of, text_of_lines}
-use Rattle.m88_base.specs.Outside.{AppendsPart}
+use Rattle.m88_base.specs.Outside.{GivesAll}
+use Rattle.m88_base.specs.declared.reply.Reply.{Reply}
+use Rattle.m88_base.proofs.Laws.{same_input}
 use Rattle.m88_base.specs.Refusal.{Refusal}
 use Rattle.m88_base.specs.Refused.{refused_line}
 use Rattle.m88_parse.specs.Language.Units.{IsUnit}
@@ -14,26 +16,25 @@ use Rattle.m88_parse.specs.declared.unit.Unit.{Unit as Source}
 use Rattle.m88_link.proofs.Laws.{too_large_is}
 use Rattle.m88_link.specs.Refusal.{is_too_large}
 use Rattle.m88_link.specs.Sizes.{total_size}
-use Rattle.m88_asm.proofs.Laws.{extents_law, modules_sound, not_linked, same_program_refusal}
+use Rattle.m88_asm.proofs.Laws.{extents_law, modules_sound}
 use Rattle.m88_asm.specs.Accepted.{IsAcceptedUnit}
 use Rattle.m88_asm.specs.Images.{IsUnitImage}
 use Rattle.m88_asm.specs.Objects.{objects_of}
 use Rattle.m88_asm.specs.Sources.{IsRefusedProgram}
 use Rattle.m88_asm.specs.Units.{based}
-use Rattle.m88_listing.specs.Answer.{IsAnswer, IsAnswerToAccepted, IsAnswerToRefused}
-use Rattle.m88_listing.specs.Calls.{GivesAll, IsWhole}
+use Rattle.m88_listing.specs.Answer.{Lists, ListsRefused}
 use Rattle.m88_listing.specs.Entries.{numbers_of}
-use Rattle.m88_listing.specs.Listing.{entry_lines, listing_lines}
+use Rattle.m88_listing.specs.Listing.{ListsAccepted, entry_lines, listing_lines}
 use Rattle.m88_listing.specs.Refused.{bare_text, line_at, mark_line, refused_text}
-use Rattle.m88_listing.specs.Inside.Replies.{Replies}
+use Rattle.m88_listing.specs.Inside.Replies.{ListsAs}
 use Rattle.m88_listing.specs.Rows.{numbered_lines, rows_of_unit, source_lines}
 use Rattle.m88_listing.specs.Inside.Slots.{slots_of, walked}
 use Rattle.m88_listing.specs.declared.entries.Entry.{Entry}
-use Rattle.m88_listing.specs.declared.listing.Reply.{Reply}
 use Rattle.m88_listing.specs.declared.slots.Slot.{Slot}
 use Rattle.m88_listing.proofs.Climbing.{unit_climbs, walked_lines}
 use Rattle.m88_listing.proofs.Fitting.{unit_kept}
 use Rattle.m88_listing.proofs.Texts.{text_append}
+use Rattle.m88_listing.proofs.Verdict.{one_text}
 
 -- the objects of a unit that is accepted have no more bytes than an image may have
 pub size_fits : (u : Source) → IsAcceptedUnit u → total_size (objects_of u) ≤ most_bytes
@@ -61,11 +62,6 @@ listing_whole source t1 t2 t3 u image slots labels numbers is accepted own kept 
     ∙ ap (λ t. t ++ text_of_lines c) (e2 ∙ ap (λ t. t ++ text_of_lines b) (e1 ∙ ap text_of_lines lines) ∙ sym (text_append a b))
     ∙ sym (text_append (a ++ b) c)
 
--- what holds of a call that failed
-pub of_err : {T E P : Type 0} (r : Result T E) → is_err r ≡ true → OnErr r P → P
-of_err (Ok x) e h = absurd cc
-of_err (Err x) e h = h
-
 -- a text that refuses a source has bytes
 pub refusal_some : (source : List ℕ) (r : Refusal) → 0 < length (refused_text source r)
 refusal_some source r =
@@ -80,51 +76,21 @@ refusal_some source r =
       length-append ((a ++ (mark ++ line_end)) ++ told) (bare_text (drop r.line (numbered_lines source))),
     )
 
--- where nothing was written, no text stands whole
-pub not_whole : (held : Option (List ℕ)) (text : List ℕ) → 0 < length text → IsWhole held held text → ⊥
-not_whole None text some whole = whole
-not_whole (Some old) text some whole =
-    let same : length old ≡ length old + length text = ap length whole ∙ length-append old text in
-    absurd (omega arith)
-
--- where a part was written, the text does not stand whole
-pub not_part : (old new : Option (List ℕ)) (text : List ℕ) → AppendsPart old new text → IsWhole old new text → ⊥
-not_part None new text part whole = whole
-not_part (Some old) None text part whole = whole
-not_part (Some old) (Some new) text part whole =
-    let front : length (take part.0 text) ≡ part.0 = length-take-le part.0 text (omega (arith, part.1)) in
-    let shorter : length new ≡ length old + length (take part.0 text) = ap length part.2 ∙ length-append old (take part.0 text) in
-    let longer : length new ≡ length old + length text = ap length whole ∙ length-append old text in
-    absurd (omega (arith, part.1))
-
--- a source that had bytes, and has nothing left, gave these
-pub same_bytes : (old new : Option (List ℕ)) (bytes given : List ℕ) → old ≡ Some bytes → new ≡ Some [] → Consumes old new given → given ≡ bytes
-same_bytes old new bytes given had left consumes =
-    let all : Consumes (Some bytes) (Some []) given =
-    subst (λ o. Consumes o (Some []) given) had (subst (λ o. Consumes old o given) left consumes) in
-    sym (append-nil given) ∙ sym all
-
 -- a reply to what a source gave
 pub reply_whole : (before after : Option (List ℕ)) (bytes : List ℕ) (reply : Reply) → before ≡ Some bytes → after ≡ Some []
-    → (given : List ℕ) × GivesAll before after given × Replies given reply → Replies bytes reply
+    → (given : List ℕ) × GivesAll before after given × ListsAs given reply → ListsAs bytes reply
 reply_whole before after bytes reply had left ok =
-    subst (λ b. Replies b reply) (same_bytes before after bytes ok.0 had left ok.1.0) ok.2
+    subst (λ b. ListsAs b reply) (same_input before after bytes ok.0 had left ok.1.0) ok.2
 
-by_accepted : (accepted : Bool) (source text : List ℕ)
-    → MatchBool accepted (IsAnswerToAccepted source text) (IsAnswerToRefused source text) → IsAnswer source text
+-- the reply's text lists the source
+by_accepted : (accepted : Bool) (source text : List ℕ) → MatchBool accepted (ListsAccepted source text) (ListsRefused source text) → Lists source text
 by_accepted true source text h = inl h
 by_accepted false source text h = inr h
 
--- the reply to a source that is refused is the text of that refusal
-pub text_of_reply : (source : List ℕ) (r : Refusal) (reply : Reply) → IsRefusedProgram 0 source r → Replies source reply → reply.text.items ≡ refused_text source r
-text_of_reply source r reply refused h = by (by_accepted reply.accepted source reply.text.items h)
-  where
-    by : IsAnswer source reply.text.items → reply.text.items ≡ refused_text source r
-    by (inl k) = absurd (not_linked 0 source r k.listing.accepted refused)
-    by (inr k) = k.is_text ∙ ap (refused_text source) (same_program_refusal 0 source k.refusal r k.refused refused)
+pub lists_of : (source : List ℕ) (reply : Reply) → ListsAs source reply → Lists source reply.text.items
+lists_of source reply h = by_accepted reply.accepted source reply.text.items h
 
--- a source that is refused isn't answered by a reply that accepts it
-pub not_taken : (source : List ℕ) (r : Refusal) (reply : Reply) → reply.accepted ≡ true → IsRefusedProgram 0 source r → Replies source reply → ⊥
-not_taken source r reply e refused h =
-    let k = subst (λ t. MatchBool t (IsAnswerToAccepted source reply.text.items) (IsAnswerToRefused source reply.text.items)) e h in
-    not_linked 0 source r k.listing.accepted refused
+-- the reply to a source that is refused is the text of that refusal
+pub text_of_reply : (source : List ℕ) (r : Refusal) (reply : Reply) → IsRefusedProgram 0 source r → ListsAs source reply → reply.text.items ≡ refused_text source r
+text_of_reply source r reply refused h = one_text source reply.text.items (refused_text source r) (lists_of source reply h)
+    (inr (record { refusal = r; refused = refused; is_text = refl }))

@@ -8,7 +8,7 @@ use Rattle.m88_parse.specs.Language.Units.{IsUnit}
 use Rattle.m88_parse.specs.declared.unit.Unit.{Unit as Source}
 use Rattle.m88_asm.specs.Accepted.{IsAcceptedUnit}
 use Rattle.m88_asm.specs.Images.{IsUnitImage}
-use Rattle.m88_listing.specs.Calls.{most_source}
+use Rattle.m88_listing.specs.Calls.{most_input}
 use Rattle.m88_listing.specs.Columns.{before_source, blank}
 use Rattle.m88_listing.specs.Rows.{Row, numbered_lines, row_on, rows_of_unit, source_lines}
 
@@ -35,5 +35,5 @@ has_number line = not (slice_index_or line 6 blank == blank)
 -- the lines of a listing that have a number are, without their columns, the lines of the source, each once and in order
 abbrev pub EachLineStandsOnce : Type 0
 EachLineStandsOnce =
-    (source : List ℕ) (u : Source) → length source ≤ most_source → IsAcceptedUnit u
+    (source : List ℕ) (u : Source) → length source ≤ most_input → IsAcceptedUnit u
     → map (drop before_source) (filter has_number (source_lines (rows_of_unit u) source)) ≡ lines_of source

@@ -4,7 +4,6 @@ pub mod Rows
 pub mod Entries
 pub mod Listing
 pub mod Refused
-pub mod Status
 pub mod Answer
 pub mod Calls
 pub mod Laws

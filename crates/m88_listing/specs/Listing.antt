@@ -18,8 +18,8 @@ listing_lines source u labels =
     ++ entry_lines (codes "labels") labels
     ++ entry_lines (codes "numbers") (numbers_of u)
 
--- the text is the listing of a source that is accepted
-pub record IsListing (source text : List ℕ) : Type 0 where
+-- the text lists a source that is accepted
+pub record ListsAccepted (source text : List ℕ) : Type 0 where
   pub accepted : IsProgramSource source
   pub labels : List Entry
   pub in_order : AreInOrder (labels_of accepted.unit) labels

@@ -2,7 +2,7 @@
 ghost use Rattle.std.specs.Prelude.{◌≡◌, ◌-◌, ◌≤◌, ◌++◌, length, decimal, codes, OnOk};
 ghost use Rattle.m88_base.specs.Hex.{hex8};
 ghost use Rattle.m88_base.specs.Lines.{line_end};
-ghost use Rattle.m88_listing.specs.Columns.{at_right, bare_line, blanks, columns, further_columns};
+ghost use Rattle.m88_listing.specs.Columns.{at_right, blanks, columns, further_columns};
 ghost use Rattle.m88_listing.specs.Rows.{digits};
 
 use itoa::Buffer;
@@ -30,23 +30,6 @@ fn push_number(text: &mut Vec<u8>, number: u64) -> Result<(), AllocError>
     let digits = buffer.format(number).as_bytes();
     push_blanks(text, 7usize.saturating_sub(digits.len()))?;
     text.extend_from_slice(digits)?;
-    Ok(())
-}
-
-/// Appends a line of the source without address and bytes.
-#[tactic(auto, using(crate::proofs::Lines::bare_empty))]
-pub(crate) fn push_bare(text: &mut Vec<u8>, number: u64, line: &[u8]) -> Result<(), AllocError>
-    ensures { OnOk result
-        (text.new.items ≡ text.old.items ++ (bare_line number line.now ++ line_end)) }
-{
-    push_number(text, number)?;
-    if line.is_empty() {
-        text.push(b'\n')?;
-        return Ok(());
-    }
-    text.extend_from_slice(b"                              ")?;
-    text.extend_from_slice(line)?;
-    text.push(b'\n')?;
     Ok(())
 }
 

@@ -1,41 +1,16 @@
 //! What the statements of a unit put where.
 ghost use Rattle.std.specs.Prelude.{◌≡◌, ◌++◌, IfOk, OnOk};
 ghost use Rattle.std.specs.List.{All};
-ghost use Rattle.m88_parse.specs.WellFormed.{IsAlignment, IsFormedBody};
-ghost use Rattle.m88_asm.specs.Counters.{at_begin, length_at, padding};
+ghost use Rattle.m88_asm.specs.Counters.{at_begin};
 ghost use Rattle.m88_listing.specs.Rows.{is_counted};
 ghost use Rattle.m88_listing.specs.Inside.Slots.{StandsWithin, ModuleFits, PutsSlot, counters_in, slots_from, slots_of};
 
 use crate::cursor::Cursor;
 use crate::slots::Slot;
 use crate::standing::Standing;
+use m88_asm::length_at;
 use m88_parse::{Body, Statement};
 use std::alloc::{AllocError, Global};
-
-/// The number of zero bytes from a place up to a multiple of n.
-fn padding(n: usize, place: usize) -> usize
-    requires { IsAlignment n }
-    ensures { result ≡ padding n place }
-{
-    (n - place % n) % n
-}
-
-/// The number of bytes that a body gives at a place.
-fn length_at(place: usize, body: &Body) -> usize
-    requires { IsFormedBody body.now }
-    ensures { result ≡ length_at place body.now }
-{
-    match body {
-        Body::Word(values) => 4 * values.as_slice().len(),
-        Body::Half(numbers) => 2 * numbers.as_slice().len(),
-        Body::Byte(bytes) => bytes.as_slice().len(),
-        Body::Ascii(bytes) => bytes.as_slice().len(),
-        Body::Zero(n) => *n as usize,
-        Body::Align(n) => padding(*n as usize, place),
-        Body::Code(_, _) => 4,
-        _ => 0,
-    }
-}
 
 /// Whether the bytes of a body are told as a count.
 fn is_counted(body: &Body) -> bool

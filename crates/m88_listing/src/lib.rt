@@ -10,15 +10,13 @@ mod slots;
 mod standing;
 
 // The text.
+mod column;
 mod columns;
-mod counting;
 mod listing;
 mod refused;
 mod rows;
 
 // The top call.
 mod program;
-mod status;
 
-pub use program::{MOST_SOURCE, m88list};
-pub use status::ListStatus;
+pub use program::m88list;

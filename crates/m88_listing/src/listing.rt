@@ -6,27 +6,20 @@ ghost use Rattle.m88_link.specs.Reasons.{link_reason};
 ghost use Rattle.m88_asm.specs.Fault.{memory_ran_out};
 ghost use Rattle.m88_asm.specs.Reasons.{asm_reason};
 ghost use Rattle.m88_asm.specs.Sources.{IsRefusedProgram};
-ghost use Rattle.m88_listing.specs.Calls.{most_source};
-ghost use Rattle.m88_listing.specs.Listing.{IsListing};
-ghost use Rattle.m88_listing.specs.Inside.Replies.{IsBuilt, Replies};
+ghost use Rattle.m88_base.specs.Reading.{most_input};
+ghost use Rattle.m88_listing.specs.Listing.{ListsAccepted};
+ghost use Rattle.m88_listing.specs.Inside.Replies.{IsBuilt, ListsAs};
 
 use crate::entries::{labels, numbers, push_entries};
 use crate::layout::slots;
 use crate::refused::push_refusal;
 use crate::rows::push_source;
-use crate::standing::stand;
+use crate::standing::standings;
 use m88_asm::{AsmFault, AsmKind, assemble};
-use m88_base::{Image, NoMemory};
-use m88_link::{LinkFault, LinkKind, Object, link};
+use m88_base::{Image, NoMemory, Reply};
+use m88_link::{LinkFault, LinkKind, Object, link, stand};
 use m88_parse::{ParseFault, ParseKind, Unit, parse};
 use std::alloc::Global;
-
-/// What is written for a source, and whether the source is accepted.
-#[derive(Debug, Drop)]
-pub(crate) struct Reply {
-    pub accepted: bool,
-    pub text: Vec<u8>,
-}
 
 /// The reply that refuses a source at a line and a column, both from 1, for a reason.
 fn refuse(
@@ -36,10 +29,10 @@ fn refuse(
     column: u32,
     reason: &[u8],
 ) -> Result<Reply, NoMemory>
-    requires { length source.now ≤ most_source }
+    requires { length source.now ≤ most_input }
     ensures { IsRefusedProgram 0 source.now
         (record { line = line; column = column; reason = reason.now })
-        → IfOk result (Replies source.now) }
+        → IfOk result (ListsAs source.now) }
 {
     let mut text = Vec::new(alloc);
     push_refusal(&mut text, source, line, column, reason)?;
@@ -51,10 +44,10 @@ fn refuse(
 
 /// The reply for a fault of the source's lines, unless the fault is that memory ran out.
 fn unread(alloc: Global, source: &[u8], fault: ParseFault) -> Result<Reply, NoMemory>
-    requires { length source.now ≤ most_source }
+    requires { length source.now ≤ most_input }
     ensures refused { IsRefusedProgram 0 source.now
         (record { line = fault.line; column = fault.col; reason = reason fault.kind })
-        → IfOk result (Replies source.now) }
+        → IfOk result (ListsAs source.now) }
     ensures told { IfOk result (λ _. fault ≢ out_of_memory) }
 {
     if fault.kind == ParseKind::Memory {
@@ -71,10 +64,10 @@ fn unread(alloc: Global, source: &[u8], fault: ParseFault) -> Result<Reply, NoMe
 
 /// The reply for a fault of the unit's statements, unless the fault is that memory ran out.
 fn unassembled(alloc: Global, source: &[u8], fault: AsmFault) -> Result<Reply, NoMemory>
-    requires { length source.now ≤ most_source }
+    requires { length source.now ≤ most_input }
     ensures refused { IsRefusedProgram 0 source.now
         (record { line = fault.line; column = fault.col; reason = asm_reason fault.kind })
-        → IfOk result (Replies source.now) }
+        → IfOk result (ListsAs source.now) }
     ensures told { IfOk result (λ _. fault ≢ memory_ran_out) }
 {
     if fault.kind == AsmKind::Memory {
@@ -86,10 +79,10 @@ fn unassembled(alloc: Global, source: &[u8], fault: AsmFault) -> Result<Reply, N
 
 /// The reply for a fault of the unit's layout, unless the fault is that memory ran out.
 fn unlinked(alloc: Global, source: &[u8], fault: LinkFault) -> Result<Reply, NoMemory>
-    requires { length source.now ≤ most_source }
+    requires { length source.now ≤ most_input }
     ensures refused { IsRefusedProgram 0 source.now
         (record { line = fault.line; column = fault.col; reason = link_reason fault.kind })
-        → IfOk result (Replies source.now) }
+        → IfOk result (ListsAs source.now) }
     ensures told { IfOk result (λ _. fault ≢ memory_fault) }
 {
     if fault.kind == LinkKind::Memory {
@@ -107,16 +100,17 @@ fn listing(
     objects: &[Object],
     image: &Image,
 ) -> Result<Vec<u8>, NoMemory>
-    requires short { length source.now ≤ most_source }
+    requires short { length source.now ≤ most_input }
     requires accepted { IsBuilt source.now unit.now objects.now image.now }
-    ensures { IfOk result (λ text. IsListing source.now text.items) }
+    ensures { IfOk result (λ text. ListsAccepted source.now text.items) }
 {
-    let standings = stand(alloc, unit.modules.as_slice(), objects)?;
+    let placements = stand(alloc, objects)?;
+    let standings = standings(alloc, unit, placements.as_slice())?;
     let slots = slots(alloc, standings.as_slice())?;
     let labels = labels(alloc, standings.as_slice())?;
     let numbers = numbers(alloc, standings.as_slice())?;
     let mut text = Vec::new(alloc);
-    push_source(&mut text, alloc, source, slots.as_slice(), image)?;
+    push_source(&mut text, source, slots.as_slice(), image)?;
     push_entries(&mut text, b"labels", labels.as_slice())?;
     push_entries(&mut text, b"numbers", numbers.as_slice())?;
     Ok(text)
@@ -124,8 +118,8 @@ fn listing(
 
 /// The reply to a source.
 pub(crate) fn reply_to(alloc: Global, source: &[u8]) -> Result<Reply, NoMemory>
-    requires { length source.now ≤ most_source }
-    ensures { IfOk result (Replies source.now) }
+    requires { length source.now ≤ most_input }
+    ensures { IfOk result (ListsAs source.now) }
 {
     let unit = match parse(alloc, source) {
         Ok(unit) => unit,

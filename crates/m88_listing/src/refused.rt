@@ -1,10 +1,12 @@
 //! The text of a source that is refused.
-ghost use Rattle.std.specs.Prelude.{◌≡◌, ◌<◌, ◌^◌, ◌++◌, [], length, map, slice_index_or, IfOk, OnOk};
+ghost use Rattle.std.specs.Prelude.{◌≡◌, ◌+◌, ◌<◌, ◌≤◌, ◌^◌, ◌++◌, [], length, map, slice_index_or, IfOk, OnOk};
 ghost use Rattle.m88_base.specs.Lines.{line_end, lines_of};
+ghost use Rattle.m88_base.specs.Reading.{most_input};
 ghost use Rattle.m88_listing.specs.Inside.Pushed.{PushesLines};
 ghost use Rattle.m88_listing.specs.Refused.{below, mark_line, refused_text};
 
-use crate::columns::push_bare;
+use crate::column::Column;
+use crate::rows::next_line;
 use m88_base::{first_line, push_refused};
 use std::alloc::AllocError;
 
@@ -16,16 +18,20 @@ fn push_lines<'a>(
     first: u64,
     count: u64,
 ) -> Result<&'a [u8], AllocError>
-    requires low { first < 2 ^ 33 }
-    requires short { length source.now < 2 ^ 31 }
+    requires { 0 < length source.now → first + length source.now < 10 ^ 7 }
     ensures { IfOk result (λ rest.
         PushesLines source.now first count text.old.items text.new.items rest.now) }
 {
+    if source.is_empty() {
+        return Ok(source);
+    }
+    let mut column = Column::new(first);
     let mut rest = source;
     let mut passed: u64 = 0;
     while !rest.is_empty() && passed < count {
-        let (line, behind) = first_line(rest);
-        push_bare(text, first + passed, line)?;
+        let (line, behind) = next_line(rest);
+        column.push_line(text, line)?;
+        column.count_on();
         rest = behind;
         passed += 1;
     }
@@ -79,7 +85,7 @@ pub(crate) fn push_refusal(
     column: u32,
     reason: &[u8],
 ) -> Result<(), AllocError>
-    requires { length source.now < 2 ^ 31 }
+    requires { length source.now ≤ most_input }
     ensures { OnOk result (text.new.items ≡ text.old.items ++ refused_text source.now
         (record { line = line; column = column; reason = reason.now })) }
 {

@@ -1,18 +1,17 @@
 //! The lines of a source with what they put where.
-ghost use Rattle.std.specs.Prelude.{◌≡◌, ◌+◌, ◌≤◌, ◌<◌, ◌^◌, ◌++◌, decimal, length, IfOk, OnOk};
+ghost use Rattle.std.specs.Prelude.{◌≡◌, ◌+◌, ◌≤◌, ◌<◌, ◌^◌, ◌++◌, length, IfOk, OnOk};
 ghost use Rattle.std.specs.List.{All};
 ghost use Rattle.m88_base.specs.Image.{byte_at};
-ghost use Rattle.m88_base.specs.Lines.{line_end, lines_of, text_of_lines};
-ghost use Rattle.m88_listing.specs.Calls.{most_source};
-ghost use Rattle.m88_listing.specs.Columns.{at_right, bare_line};
+ghost use Rattle.m88_base.specs.Lines.{lines_of, text_of_lines};
+ghost use Rattle.m88_base.specs.Reading.{most_input};
 ghost use Rattle.m88_listing.specs.Rows.{further_from, row_lines};
-ghost use Rattle.m88_listing.specs.Inside.Slots.{GoesBehind, IsNextLine, IsSlot, found_bytes, kept_row, walked};
+ghost use Rattle.m88_listing.specs.Inside.Slots.{GoesBehind, IsNextLine, IsSlot, kept_row, walked};
 
-use crate::columns::{MOST_SHOWN, push_bare, push_counted, push_further, push_shown};
-use crate::counting::{alone, count_on};
+use crate::column::Column;
+use crate::columns::{MOST_SHOWN, push_counted, push_further, push_shown};
 use crate::slots::Slot;
 use m88_base::{Image, first_line};
-use std::alloc::{AllocError, Global};
+use std::alloc::AllocError;
 
 /// Appends the lines of the bytes behind the eight that the first line shows from an address on.
 fn push_further_lines(text: &mut Vec<u8>, at: u32, behind: &[u8]) -> Result<(), AllocError>
@@ -28,28 +27,15 @@ fn push_further_lines(text: &mut Vec<u8>, at: u32, behind: &[u8]) -> Result<(), 
     Ok(())
 }
 
-/// The bytes of an image from an address on, 0 where it has none.
-fn bytes_at(alloc: Global, image: &Image, at: u32, len: usize) -> Result<Vec<u8>, AllocError>
-    requires { at + len ≤ 2 ^ 32 }
-    ensures { IfOk result (λ v. v.items ≡ found_bytes (byte_at image.now) at len) }
-{
-    let mut bytes = Vec::new(alloc);
-    for k in 0..len {
-        bytes.push(image.byte(at + k as u32).unwrap_or(0))?;
-    }
-    Ok(bytes)
-}
-
 /// Appends the lines for a line of a source with what is kept of its row.
 fn push_row(
     text: &mut Vec<u8>,
-    alloc: Global,
     number: u64,
     line: &[u8],
     slot: &Slot,
     image: &Image,
 ) -> Result<(), AllocError>
-    requires { IsSlot slot.now }
+    requires { IsSlot (byte_at image.now) slot.now }
     ensures { OnOk result (text.new.items ≡ text.old.items
         ++ text_of_lines (row_lines number line.now (kept_row (byte_at image.now) slot.now))) }
 {
@@ -57,66 +43,45 @@ fn push_row(
         push_counted(text, number, slot.at, slot.len, line)?;
         return Ok(());
     }
-    let bytes = bytes_at(alloc, image, slot.at, slot.len)?;
+    let (bytes, _) = image.rest(slot.at).split_at(slot.len);
     let (shown, behind) = bytes.split_at(slot.len.min(MOST_SHOWN));
     push_shown(text, number, slot.at, shown, line)?;
     push_further_lines(text, slot.at, behind)?;
     Ok(())
 }
 
-/// Appends a line of the source without address and bytes; an empty one is its number alone.
-#[tactic(auto, using(crate::proofs::Lines::bare_empty))]
-fn push_plain(
-    text: &mut Vec<u8>,
-    number: u64,
-    alone: &[u8; 8],
-    line: &[u8],
-) -> Result<(), AllocError>
-    requires { alone.now ≡ at_right 7 (decimal number) ++ line_end }
-    ensures { OnOk result
-        (text.new.items ≡ text.old.items ++ (bare_line number line.now ++ line_end)) }
-{
-    if line.is_empty() {
-        text.extend_from_slice(alone)?;
-        return Ok(());
-    }
-    push_bare(text, number, line)
-}
-
 /// Appends the lines for a line of a source, and answers for how many of the slots that are left: the first, where it
 /// is that of this line.
 fn push_next(
     text: &mut Vec<u8>,
-    alloc: Global,
-    number: u64,
-    alone: &[u8; 8],
+    column: &Column,
     line: &[u8],
     slots: &[Slot],
     image: &Image,
 ) -> Result<usize, AllocError>
-    requires slots { All IsSlot slots.now }
-    requires alone { alone.now ≡ at_right 7 (decimal number) ++ line_end }
+    requires { All (IsSlot (byte_at image.now)) slots.now }
     ensures { IfOk result
-        (GoesBehind (byte_at image.now) number line.now slots.now text.old.items text.new.items) }
+        (GoesBehind (byte_at image.now) column.now line.now slots.now text.old.items text.new.items) }
 {
+    let number = column.number();
     match slots.first() {
         Some(slot) => {
             if u64::from(slot.line) == number {
-                push_row(text, alloc, number, line, slot, image)?;
+                push_row(text, number, line, slot, image)?;
                 return Ok(1);
             }
-            push_plain(text, number, alone, line)?;
+            column.push_line(text, line)?;
             Ok(0)
         }
         None => {
-            push_plain(text, number, alone, line)?;
+            column.push_line(text, line)?;
             Ok(0)
         }
     }
 }
 
 /// The first line of what is left of a source, and what is left behind it; one that is empty is seen at once.
-fn next_line(rest: &[u8]) -> (&[u8], &[u8])
+pub(crate) fn next_line(rest: &[u8]) -> (&[u8], &[u8])
     requires { 0 < length rest.now }
     ensures { IsNextLine rest.now result.0.now result.1.now }
 {
@@ -129,27 +94,24 @@ fn next_line(rest: &[u8]) -> (&[u8], &[u8])
 /// Appends the lines for all lines of a source, with what is kept of the rows of its image.
 pub(crate) fn push_source(
     text: &mut Vec<u8>,
-    alloc: Global,
     source: &[u8],
     slots: &[Slot],
     image: &Image,
 ) -> Result<(), AllocError>
-    requires short { length source.now ≤ most_source }
-    requires each { All IsSlot slots.now }
+    requires short { length source.now ≤ most_input }
+    requires each { All (IsSlot (byte_at image.now)) slots.now }
     ensures { OnOk result (text.new.items ≡ text.old.items
         ++ text_of_lines (walked (byte_at image.now) 1 (lines_of source.now) slots.now)) }
 {
     let mut rest = source;
-    let mut number: u64 = 1;
-    let mut column = alone(1);
+    let mut column = Column::new(1);
     let mut next = 0;
     while !rest.is_empty() {
         let (line, behind) = next_line(rest);
         let (_, left) = slots.split_at(next);
-        next += push_next(text, alloc, number, &column, line, left, image)?;
+        next += push_next(text, &column, line, left, image)?;
         rest = behind;
-        count_on(&mut column, number);
-        number += 1;
+        column.count_on();
     }
     Ok(())
 }

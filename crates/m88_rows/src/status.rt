@@ -1,7 +1,6 @@
 //! How a command ends, by its name in a row.
 
-use m88_cli::Status;
-use m88_listing::ListStatus;
+use m88_base::Status;
 
 /// The names of the statuses.
 const NAMES: [(&str, Status); 7] = [
@@ -32,17 +31,4 @@ pub fn name_of(status: Status) -> &'static str {
         }
     }
     "no status"
-}
-
-/// The status of `m88` for the same end.
-pub fn status_of_listing(status: ListStatus) -> Status {
-    match status {
-        ListStatus::Done => Status::Done,
-        ListStatus::Usage => Status::Usage,
-        ListStatus::SourceFault => Status::SourceFault,
-        ListStatus::SinkFault => Status::SinkFault,
-        ListStatus::Refused => Status::Refused,
-        ListStatus::Memory => Status::Memory,
-        ListStatus::TooLong => Status::TooLong,
-    }
 }

@@ -1,7 +1,7 @@
 //! A row tried: each of its commands in each of its pieces and variants.
 
 use crate::row::{Command, Place, Row, Variant};
-use crate::status::{name_of, status_of_listing};
+use crate::status::name_of;
 use crate::text::{bytes_of, words_of};
 use anyhow::{Result, bail};
 use m88_base::{MemSink, MemSource};
@@ -182,7 +182,7 @@ fn answer(
     };
     match program.as_str() {
         "m88" => Ok(m88(alloc, words, source, sink, &mut Unwatched::new())),
-        "m88list" => Ok(status_of_listing(m88list(alloc, words, source, sink))),
+        "m88list" => Ok(m88list(alloc, words, source, sink)),
         _ => bail!("there is no program {program}"),
     }
 }

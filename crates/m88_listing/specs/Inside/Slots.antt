@@ -1,5 +1,5 @@
 -- What is kept of a row while the image has its bytes, and the lines as they are written from the first on.
-use Rattle.std.specs.Prelude.{ℕ, ◌≡◌, ◌+◌, ◌<◌, ◌≤◌, ◌^◌, ◌==◌, if◌then◌else◌, List, [], ◌∷◌, ◌++◌, drop, flat_map, length, map, Option, slice_index_or, unwrap_or}
+use Rattle.std.specs.Prelude.{ℕ, ◌≡◌, ◌+◌, ◌<◌, ◌≤◌, ◌^◌, ◌==◌, if◌then◌else◌, List, [], ◌∷◌, ◌++◌, drop, flat_map, length, map, Option, IsSome, slice_index_or, unwrap_or}
 use Rattle.std.specs.List.{range_with_len}
 use Rattle.m88_base.specs.Image.{most_bytes}
 use Rattle.m88_base.specs.Lines.{lines_of, text_of_lines}
@@ -7,6 +7,7 @@ use Rattle.m88_parse.specs.WellFormed.{IsFormedBody}
 use Rattle.m88_parse.specs.declared.unit.Statement.{Statement}
 use Rattle.m88_asm.specs.Counters.{Counters, Located, after, at_begin, length_of, offset_of}
 use Rattle.m88_link.specs.Bases.{Placement}
+use Rattle.m88_link.specs.declared.object.Object.{Object}
 use Rattle.m88_parse.specs.declared.unit.Module.{Module}
 use Rattle.m88_asm.specs.Units.{address_in}
 use Rattle.m88_listing.specs.Columns.{bare_line}
@@ -32,9 +33,15 @@ counters_in p = record {
   lengths = λ k. (part_at p.parts k).len;
 }
 
--- what a slot keeps lies among the addresses
-abbrev pub IsSlot : Slot → Type 0
-IsSlot s = (0 < s.len) × (s.at + s.len ≤ 2 ^ 32)
+-- a module where its object stands
+abbrev pub standing : Module → Placement Object → Placement Module
+standing part object = record { part = part; text_at = object.text_at; data_at = object.data_at }
+
+-- what a slot keeps lies among the addresses, and a byte is found at each of its own
+pub record IsSlot (found : ℕ → Option ℕ) (s : Slot) : Type 0 where
+  pub some : 0 < s.len
+  pub within : s.at + s.len ≤ 2 ^ 32
+  pub has : (k : ℕ) → k < s.len → IsSome (found (s.at + k))
 
 -- so many bytes from an address on, 0 where there is none
 abbrev pub found_bytes : (ℕ → Option ℕ) → ℕ → ℕ → List ℕ

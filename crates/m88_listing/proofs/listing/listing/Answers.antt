@@ -5,17 +5,19 @@ use Rattle.std.specs.Prelude.{is_none, is_some}
 use Rattle.std.proofs.lemmas.List.Elements.{All-from_recursion}
 use Rattle.m88_base.specs.Image.{byte_at, most_bytes}
 use Rattle.m88_base.specs.Lines.{lines_of, text_of_lines}
-use Rattle.m88_base.specs.Pages.{page_bytes}
 use Rattle.m88_parse.specs.declared.unit.Module.{Module}
-use Rattle.m88_link.specs.Bases.{Placement, first_text, stood_from, text_end, up_to_multiple}
+use Rattle.m88_link.specs.Bases.{Placement, section_size, stood}
 use Rattle.m88_link.specs.Sizes.{total_size}
+use Rattle.m88_link.specs.Sound.{IsSound}
 use Rattle.m88_link.specs.declared.object.Object.{Object}
-use Rattle.m88_asm.specs.Units.{based, section_length}
+use Rattle.m88_asm.specs.Units.{based}
+use Rattle.m88_asm.specs.Objects.{objects_of}
+use Rattle.m88_asm.proofs.Laws.{modules_sound}
 use Rattle.m88_listing.specs.Entries.{AreInOrder, entries_in, labels_of, numbers_of}
 use Rattle.m88_listing.specs.Inside.Slots.{IsSlot, ModuleFits, slots_of, walked}
 use Rattle.m88_listing.specs.declared.entries.Entry.{Entry}
 use Rattle.m88_listing.specs.declared.slots.Slot.{Slot}
-use Rattle.m88_listing.proofs.Fitting.{are_slots, unit_fits}
+use Rattle.m88_listing.proofs.Fitting.{unit_fits, unit_slots}
 use Rattle.m88_listing.proofs.Whole.{listing_whole, size_fits}
 use Rattle.m88_listing.proofs.listing.listing.Goals as goal
 
@@ -24,35 +26,38 @@ stand-requires-clause-size c =
     subst (λ (os : List Object). total_size os ≤ most_bytes) (sym c.requires.accepted.are_objects)
     (size_fits c.args.unit.now c.requires.accepted.accepted)
 
+pub stand-requires-clause-sound : goal.stand-requires-clause-sound
+stand-requires-clause-sound c =
+    let u = c.args.unit.now in
+    subst (λ (os : List Object). All IsSound os) (sym c.requires.accepted.are_objects)
+    (All-from_recursion IsSound (objects_of u) (modules_sound u.modules c.requires.accepted.accepted.assembled))
+
+pub standings-requires : goal.standings-requires
+standings-requires c =
+    c.as_slice.ensures.value ∙ c.in_ok-placements.ensures ∙ ap (stood section_size) c.requires.accepted.are_objects
+
 pub slots-requires : goal.slots-requires
 slots-requires c =
     let u = c.args.unit.now in
-    let all : c.as_slice-2.result.now ≡ based u =
-    c.as_slice-2.ensures.value ∙ c.in_ok-standings.ensures
-    ∙ ap (λ (ms : List Module). stood_from section_length first_text (up_to_multiple page_bytes (text_end section_length first_text ms)) ms) c.as_slice.ensures in
-    subst (λ (bs : List (Placement Module)). All ModuleFits bs) (sym all)
+    subst (λ (bs : List (Placement Module)). All ModuleFits bs) (sym (c.as_slice-2.ensures.value ∙ c.in_ok-standings.ensures))
     (All-from_recursion ModuleFits (based u) (unit_fits u c.args.image.now c.requires.accepted.formed c.requires.accepted.accepted c.requires.accepted.is_image))
 
 pub push_source-requires-clause-each : goal.push_source-requires-clause-each
 push_source-requires-clause-each c =
     let u = c.args.unit.now in
-    let all : c.as_slice-2.result.now ≡ based u =
-    c.as_slice-2.ensures.value ∙ c.in_ok-standings.ensures
-    ∙ ap (λ (ms : List Module). stood_from section_length first_text (up_to_multiple page_bytes (text_end section_length first_text ms)) ms) c.as_slice.ensures in
+    let found = byte_at c.args.image.now in
     let kept : c.as_slice-5.result.now ≡ slots_of (based u) =
-    c.as_slice-5.ensures.value ∙ c.in_ok-slots.ensures ∙ ap slots_of all in
-    subst (λ (ss : List Slot). All IsSlot ss) (sym kept)
-    (All-from_recursion IsSlot (slots_of (based u))
-    (are_slots (based u) (unit_fits u c.args.image.now c.requires.accepted.formed c.requires.accepted.accepted c.requires.accepted.is_image)))
+    c.as_slice-5.ensures.value ∙ c.in_ok-slots.ensures ∙ ap slots_of (c.as_slice-2.ensures.value ∙ c.in_ok-standings.ensures) in
+    subst (λ (ss : List Slot). All (IsSlot found) ss) (sym kept)
+    (All-from_recursion (IsSlot found) (slots_of (based u))
+    (unit_slots u c.args.image.now c.requires.accepted.formed c.requires.accepted.accepted c.requires.accepted.is_image))
 
 pub returns : goal.returns
 returns c =
     let u = c.args.unit.now in
     let source = c.args.source.now in
     let found = byte_at c.args.image.now in
-    let stand : c.in_ok-standings.standings.items ≡ based u =
-    c.in_ok-standings.ensures
-    ∙ ap (λ (ms : List Module). stood_from section_length first_text (up_to_multiple page_bytes (text_end section_length first_text ms)) ms) c.as_slice.ensures in
+    let stand : c.in_ok-standings.standings.items ≡ based u = c.in_ok-standings.ensures in
     let kept : c.as_slice-5.result.now ≡ slots_of (based u) =
     c.as_slice-5.ensures.value ∙ c.in_ok-slots.ensures ∙ ap slots_of (c.as_slice-2.ensures.value ∙ stand) in
     let named : c.as_slice-7.result.now ≡ numbers_of u =

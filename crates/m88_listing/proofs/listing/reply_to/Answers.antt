@@ -4,7 +4,7 @@ use Rattle.std.proofs.lemmas.Grind.{common_steps}
 use Rattle.m88_link.specs.Layout.{layout_of}
 use Rattle.m88_link.specs.Refusal.{IsRefused}
 use Rattle.m88_link.specs.declared.object.Object.{Object}
-use Rattle.m88_listing.proofs.Verdict.{accepted_answer, asm_told, link_told}
+use Rattle.m88_listing.proofs.Verdict.{asm_told, link_told}
 use Rattle.m88_listing.proofs.listing.reply_to.Goals as goal
 
 pub returns-in-Err-assemble : goal.returns-in-Err-assemble
@@ -20,7 +20,7 @@ returns-in-Err-assemble c = elim c.in-Err-assemble.ensures.fault [
 ]
 
 pub returns-in-Ok-link : goal.returns-in-Ok-link
-returns-in-Ok-link c = accepted_answer c.args.source.now c.in_ok-text-in-Ok-link.text.items c.in_ok-text-in-Ok-link.ensures
+returns-in-Ok-link c = c.in_ok-text-in-Ok-link.ensures
 
 pub returns : goal.returns
 returns c = elim c.in-Err-link.ensures.err [

@@ -1,10 +1,14 @@
--- A refusal stands whole only where it was written whole.
-use Rattle.std.proofs.Common.{◌≡◌, ◌∙◌, sym, subst}
+-- What is written is the reply, whole or a part of it.
+use Rattle.std.proofs.Common.{◌≡◌, ◌∙◌, Ok, refl, sym, subst}
+use Rattle.m88_base.proofs.Laws.{answered, not_part, not_whole, only_refused, same_input, wrote}
 use Rattle.m88_base.specs.Outside.{AppendsPart}
+use Rattle.m88_asm.proofs.Laws.{not_linked, one_program_verdict}
+use Rattle.m88_asm.specs.Sources.{IsProgramSource}
 use Rattle.m88_listing.specs.Refused.{refused_text}
 use Rattle.m88_listing.proofs.Numbering.{each_line_stands_once}
 use Rattle.m88_listing.proofs.Showing.{each_shows_its_image}
-use Rattle.m88_listing.proofs.Whole.{not_part, not_taken, not_whole, of_err, refusal_some, reply_whole, text_of_reply}
+use Rattle.m88_listing.proofs.Verdict.{one_text}
+use Rattle.m88_listing.proofs.Whole.{lists_of, refusal_some, reply_whole, text_of_reply}
 use Rattle.m88_listing.proofs.program.m88list.Goals as goal
 
 pub returns-then-not-is_empty-clause-refusal : goal.returns-then-not-is_empty-clause-refusal
@@ -15,19 +19,36 @@ pub returns-in-Err-clause-refusal : goal.returns-in-Err-clause-refusal
 returns-in-Err-clause-refusal g c = λ bytes refusal refused had left whole.
     absurd (not_whole _ (refused_text bytes refusal) (refusal_some bytes refusal) whole)
 
-pub returns-then-reply-clause-refusal : goal.returns-then-reply-clause-refusal
-returns-then-reply-clause-refusal g c = λ bytes refusal refused had left whole.
+pub returns-in-Ok-clause-refusal : goal.returns-in-Ok-clause-refusal
+returns-in-Ok-clause-refusal g c = λ bytes refusal refused had left whole.
     let replies = reply_whole _ _ bytes c.in-Ok.reply had left c.in-Ok.ensures.ok in
-    absurd (not_taken bytes refusal c.in-Ok.reply c.if-reply.true refused replies)
+    let text = text_of_reply bytes refusal c.in-Ok.reply refused replies in
+    only_refused c.write_to.result c.write_to.ensures.written
+    (λ e. let done = c.write_to.ensures.done e in not_linked 0 bytes refusal (rw done.0 at replies).accepted refused)
+    (λ e. not_part _ _ (refused_text bytes refusal)
+    (subst (λ t. AppendsPart (g.K.Sink.held c.args.sink.now) (g.K.Sink.held c.write_to.new.sink) t) text (c.write_to.ensures.part e)) whole)
 
-pub returns-then-is_err-clause-refusal : goal.returns-then-is_err-clause-refusal
-returns-then-is_err-clause-refusal g c = λ bytes refusal refused had left whole.
-    let replies = reply_whole _ _ bytes c.in-Ok.reply had left c.in-Ok.ensures.ok in
-    let written : c.as_slice.result.now ≡ refused_text bytes refusal =
-    c.as_slice.ensures.value ∙ text_of_reply bytes refusal c.in-Ok.reply refused replies in
-    let part = of_err c.write_all.result (sym c.is_err.ensures.value ∙ c.if-is_err.true) c.write_all.ensures.part in
-    absurd (not_part _ _ (refused_text bytes refusal)
-    (subst (λ t. AppendsPart (g.K.Sink.held c.args.sink.now) (g.K.Sink.held c.write_all.new.sink) t) written part) whole)
+pub returns-in-Ok-clause-writes : goal.returns-in-Ok-clause-writes
+returns-in-Ok-clause-writes g c = λ some.
+    let ok = c.in-Ok.ensures.ok in
+    record { source = ok.0; given = ok.1; text = c.in-Ok.reply.text.items; is_text = lists_of ok.0 c.in-Ok.reply ok.2; written = c.write_to.ensures.calls }
+
+pub returns-in-Ok-clause-done : goal.returns-in-Ok-clause-done
+returns-in-Ok-clause-done g c = λ e.
+    let ok = c.in-Ok.ensures.ok in
+    let done = c.write_to.ensures.done e in
+    record { source = ok.0; given = ok.1; text = c.in-Ok.reply.text.items; is_text = rw done.0 at ok.2; written = done.1 }
+
+pub returns-in-Ok-clause-refused : goal.returns-in-Ok-clause-refused
+returns-in-Ok-clause-refused g c = λ e.
+    let ok = c.in-Ok.ensures.ok in
+    let refused = c.write_to.ensures.refused e in
+    record { source = ok.0; given = ok.1; text = c.in-Ok.reply.text.items; is_text = rw refused.0 at ok.2; written = refused.1 }
+
+pub returns-in-Ok-clause-part : goal.returns-in-Ok-clause-part
+returns-in-Ok-clause-part g c = λ e.
+    let ok = c.in-Ok.ensures.ok in
+    record { source = ok.0; given = ok.1; text = c.in-Ok.reply.text.items; is_text = lists_of ok.0 c.in-Ok.reply ok.2; written = c.write_to.ensures.part e }
 
 pub returns-then-not-is_empty-clause-image : goal.returns-then-not-is_empty-clause-image
 returns-then-not-is_empty-clause-image g c = each_shows_its_image
@@ -35,14 +56,8 @@ returns-then-not-is_empty-clause-image g c = each_shows_its_image
 pub returns-in-Err-clause-image : goal.returns-in-Err-clause-image
 returns-in-Err-clause-image g c = each_shows_its_image
 
-pub returns-then-is_err-clause-image : goal.returns-then-is_err-clause-image
-returns-then-is_err-clause-image g c = each_shows_its_image
-
-pub returns-then-reply-clause-image : goal.returns-then-reply-clause-image
-returns-then-reply-clause-image g c = each_shows_its_image
-
-pub returns-clause-image : goal.returns-clause-image
-returns-clause-image g c = each_shows_its_image
+pub returns-in-Ok-clause-image : goal.returns-in-Ok-clause-image
+returns-in-Ok-clause-image g c = each_shows_its_image
 
 pub returns-then-not-is_empty-clause-lines : goal.returns-then-not-is_empty-clause-lines
 returns-then-not-is_empty-clause-lines g c = each_line_stands_once
@@ -50,11 +65,23 @@ returns-then-not-is_empty-clause-lines g c = each_line_stands_once
 pub returns-in-Err-clause-lines : goal.returns-in-Err-clause-lines
 returns-in-Err-clause-lines g c = each_line_stands_once
 
-pub returns-then-is_err-clause-lines : goal.returns-then-is_err-clause-lines
-returns-then-is_err-clause-lines g c = each_line_stands_once
+pub returns-in-Ok-clause-lines : goal.returns-in-Ok-clause-lines
+returns-in-Ok-clause-lines g c = each_line_stands_once
 
-pub returns-then-reply-clause-lines : goal.returns-then-reply-clause-lines
-returns-then-reply-clause-lines g c = each_line_stands_once
+pub returns-then-not-is_empty-clause-one_verdict : goal.returns-then-not-is_empty-clause-one_verdict
+returns-then-not-is_empty-clause-one_verdict g c = one_program_verdict 0
 
-pub returns-clause-lines : goal.returns-clause-lines
-returns-clause-lines g c = each_line_stands_once
+pub returns-in-Err-clause-one_verdict : goal.returns-in-Err-clause-one_verdict
+returns-in-Err-clause-one_verdict g c = one_program_verdict 0
+
+pub returns-in-Ok-clause-one_verdict : goal.returns-in-Ok-clause-one_verdict
+returns-in-Ok-clause-one_verdict g c = one_program_verdict 0
+
+pub returns-then-not-is_empty-clause-one_text : goal.returns-then-not-is_empty-clause-one_text
+returns-then-not-is_empty-clause-one_text g c = one_text
+
+pub returns-in-Err-clause-one_text : goal.returns-in-Err-clause-one_text
+returns-in-Err-clause-one_text g c = one_text
+
+pub returns-in-Ok-clause-one_text : goal.returns-in-Ok-clause-one_text
+returns-in-Ok-clause-one_text g c = one_text

@@ -5,8 +5,14 @@ use Rattle.m88_base.specs.Lines.{lines_of}
 use Rattle.m88_base.specs.Refused.{refused_line}
 use Rattle.m88_parse.proofs.Laws.{lines_few}
 use Rattle.m88_listing.specs.Refused.{bare_text}
-use Rattle.m88_listing.proofs.Lines.{refused_whole}
+use Rattle.m88_listing.proofs.Lines.{more_lines, refused_whole}
 use Rattle.m88_listing.proofs.refused.push_refusal.Goals as goal
+
+pub push_lines-requires-2 : goal.push_lines-requires-2
+push_lines-requires-2 c = λ some.
+    let source = c.args.source.now in
+    let rest = c.in_ok-rest.rest.now in
+    omega (arith, more_lines source rest c.from-line.result c.in_ok-rest.ensures.rest some, lines_few source, c.in_ok-rest.ensures.shorter, c.requires)
 
 pub returns : goal.returns
 returns c =

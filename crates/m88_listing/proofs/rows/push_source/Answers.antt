@@ -12,5 +12,5 @@ pub returns : goal.returns
 returns c =
     let none : length c.loop-rest.rest.now ≡ 0 = grind (arith, common_steps) in
     sym (append-nil c.loop-rest.text.items)
-    ∙ sym (ap (λ (ls : List (List ℕ)). c.loop-rest.text.items ++ text_of_lines (walked (byte_at c.args.image.now) c.loop-rest.number ls (drop c.loop-rest.next c.args.slots.now))) (no_lines c.loop-rest.rest.now none))
+    ∙ sym (ap (λ (ls : List (List ℕ)). c.loop-rest.text.items ++ text_of_lines (walked (byte_at c.args.image.now) c.loop-rest.column ls (drop c.loop-rest.next c.args.slots.now))) (no_lines c.loop-rest.rest.now none))
     ∙ c.loop-rest.invariant.left

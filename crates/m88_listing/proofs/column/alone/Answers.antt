@@ -3,7 +3,7 @@ use Rattle.std.proofs.Common.{◌≡◌, ◌-◌, length, take, replicate, decim
 use Rattle.std.proofs.lemmas.Fmt.{length-decimal-le}
 use Rattle.std.proofs.lemmas.List.{take-append-le, take-replicate, take-append-drop}
 use Rattle.m88_base.specs.Lines.{line_end}
-use Rattle.m88_listing.proofs.counting.alone.Goals as goal
+use Rattle.m88_listing.proofs.column.alone.Goals as goal
 
 pub write_digits-requires : goal.write_digits-requires
 write_digits-requires c = search (rules, length-decimal-le 7)
