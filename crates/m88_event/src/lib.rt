@@ -6,6 +6,7 @@
 
 // the letters of a run
 mod letter;
+mod reading;
 mod schedule;
 
 // what its events do
@@ -18,5 +19,6 @@ mod outcome;
 pub use happened::{End, Happened, Why};
 pub use letter::Letter;
 pub use outcome::Outcome;
+pub use reading::letters_in;
 pub use record::Record;
 pub use schedule::Schedule;

@@ -1,14 +1,12 @@
 //! Schedules: the letters that a run begins with.
 
-ghost use Rattle.std.specs.Prelude.{[], ◌∷◌, ◌≡◌, ◌<◌, ◌≤◌, ◌↔◌, List, IfSome, IsTrue, Some, length, slice_get};
-ghost use Rattle.m88_event.specs.Letters.{HasLetters, IsSchedule, letter_at, letter_of, most_letters};
+ghost use Rattle.std.specs.Prelude.{◌≡◌, ◌<◌, ◌≤◌, List, IfSome, Some, length, slice_get};
+ghost use Rattle.m88_event.specs.Letters.{IsSchedule, letter_at, most_letters};
 ghost use Rattle.m88_event.specs.declared.letter.Letter.{Letter as LetterValue};
 
 use crate::letter::Letter;
+use crate::reading::letters_in;
 use std::marker::Model;
-
-/// The most letters of a schedule.
-const MOST_LETTERS: usize = 65_536;
 
 /// The letters that a run begins with, at most 65,536. It is lent the text that it was read from.
 #[derive(Drop, Debug)]
@@ -17,7 +15,7 @@ pub struct Schedule<'a> {
 }
 
 impl<'a> Model for Schedule<'a> {
-    ghost use Rattle.std.specs.Prelude.{List, ◌≤◌, length, map};
+    ghost use Rattle.std.specs.Prelude.{List, ◌≤◌, [], length, map};
     ghost use Rattle.m88_event.specs.Letters.{AreLetters, letter_of, most_letters};
     ghost use Rattle.m88_event.specs.declared.letter.Letter.{Letter as LetterValue};
 
@@ -25,7 +23,7 @@ impl<'a> Model for Schedule<'a> {
 
     ghost view = { λ s. map letter_of s.letters.now };
 
-    ghost invariant = { λ s. AreLetters s.letters.now × (length s.letters.now ≤ most_letters) };
+    ghost invariant = { λ s. AreLetters [] s.letters.now × (length s.letters.now ≤ most_letters) };
 }
 
 impl<'a> Schedule<'a> {
@@ -35,14 +33,8 @@ impl<'a> Schedule<'a> {
         ensures only { (letters : List LetterValue)
             → IsSchedule text.now letters → result ≡ Some letters }
     {
-        let bytes = text.as_bytes();
-        if is_dash(bytes) {
-            Some(Schedule { letters: &[] })
-        } else if are_letters(bytes) {
-            Some(Schedule { letters: bytes })
-        } else {
-            None
-        }
+        let letters = letters_in(text, &[])?;
+        Some(Schedule { letters })
     }
 
     /// How many letters there are.
@@ -58,7 +50,7 @@ impl<'a> Schedule<'a> {
         requires { index < length self.now }
         ensures { slice_get self.now index ≡ Some result }
     {
-        letter_of(self.letters[index])
+        Letter::of_byte(self.letters[index])
     }
 
     /// The letter of an event of a run, from 0: the schedule's, and behind it `r` and `i` in turn.
@@ -66,43 +58,9 @@ impl<'a> Schedule<'a> {
         ensures { result ≡ letter_at self.now k }
     {
         if k < self.len() {
-            return self.letter(k);
-        }
-        if (k - self.len()) % 2 == 0 {
-            Letter::Answer
+            self.letter(k)
         } else {
-            Letter::Issue
+            Letter::in_turn(k - self.len())
         }
-    }
-}
-
-/// Whether it is `-` alone.
-fn is_dash(bytes: &[u8]) -> bool
-    ensures { IsTrue result ↔ (bytes.now ≡ 0x2D ∷ []) }
-{
-    if let [b'-'] = bytes { true } else { false }
-}
-
-/// Whether it is 1 to 65,536 bytes `i`, `r` and `e`.
-fn are_letters(bytes: &[u8]) -> bool
-    ensures { IsTrue result ↔ HasLetters bytes.now }
-{
-    1 <= bytes.len()
-        && bytes.len() <= MOST_LETTERS
-        && bytes
-            .iter()
-            .all(|byte| *byte == b'i' || *byte == b'r' || *byte == b'e')
-}
-
-/// The letter of a byte, `r` for any but `i` and `e`.
-fn letter_of(byte: u8) -> Letter
-    ensures { result ≡ letter_of byte }
-{
-    if byte == b'i' {
-        Letter::Issue
-    } else if byte == b'e' {
-        Letter::Evict
-    } else {
-        Letter::Answer
     }
 }

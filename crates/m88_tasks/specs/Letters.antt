@@ -1,6 +1,6 @@
 -- The letters of a shared run: those of its schedule, and then `r` and `i` in turn.
-use Rattle.std.specs.Prelude.{ℕ, Bool, All, List, [], ◌∷◌, ◌≡◌, ◌⊎◌, ◌≤◌, ◌-◌, ◌==◌, ◌||◌, map, length, slice_get, unwrap_or, if◌then◌else◌, true}
-use Rattle.m88_event.specs.Letters.{in_turn, is_letter, letter_byte, letter_of, most_letters}
+use Rattle.std.specs.Prelude.{ℕ, List, [], ◌∷◌, ◌-◌, ◌==◌, length, slice_get, unwrap_or, if◌then◌else◌}
+use Rattle.m88_event.specs.Letters.{IsScheduleOf, in_turn, letter_byte, letter_of}
 use Rattle.m88_tasks.specs.declared.letter.ShareLetter.{ShareLetter}
 use Rattle.m88_tasks.specs.declared.letter.ShareLetter.TheVariants.{Own, Turn}
 
@@ -11,9 +11,7 @@ share_byte Turn = 0x74
 
 -- the schedule of a text: none for `-`, else its letters, of which there are 1 to 65,536
 abbrev pub IsShareSchedule : List ℕ → List ShareLetter → Type 0
-IsShareSchedule text letters =
-    (text ≡ 0x2D ∷ []) × (letters ≡ [])
-    ⊎ (text ≡ map share_byte letters) × (1 ≤ length letters) × (length letters ≤ most_letters)
+IsShareSchedule = IsScheduleOf share_byte
 
 -- the letter of an event of a shared run, from 0: the schedule's, and behind it `r` and `i` in turn, counted over the
 -- whole board
@@ -24,14 +22,6 @@ share_letter_at schedule k = unwrap_or (slice_get schedule k) (Own (in_turn (k -
 abbrev pub share_letter_of : ℕ → ShareLetter
 share_letter_of byte = if byte == 0x74 then Turn else Own (letter_of byte)
 
--- a byte that is a letter
-abbrev pub is_share_letter : ℕ → Bool
-is_share_letter byte = byte == 0x74 || is_letter byte
-
--- each of some bytes is one
-abbrev pub AreShareLetters : List ℕ → Type 0
-AreShareLetters bytes = All (λ byte. is_share_letter byte ≡ true) bytes
-
--- 1 to 65,536 of them
-abbrev pub HasShareLetters : List ℕ → Type 0
-HasShareLetters bytes = (1 ≤ length bytes) × (length bytes ≤ most_letters) × AreShareLetters bytes
+-- the bytes that are letters beside those of the program that runs
+abbrev pub beside_own : List ℕ
+beside_own = 0x74 ∷ []

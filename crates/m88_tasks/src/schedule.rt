@@ -1,16 +1,13 @@
 //! Schedules: the letters that a shared run begins with.
 
-ghost use Rattle.std.specs.Prelude.{[], ◌∷◌, ◌≡◌, ◌<◌, ◌≤◌, ◌↔◌, List, IfSome, IsTrue, Some, length, slice_get};
-ghost use Rattle.m88_event.specs.Letters.{letter_of, most_letters};
-ghost use Rattle.m88_tasks.specs.Letters.{HasShareLetters, IsShareSchedule, share_letter_at, share_letter_of};
+ghost use Rattle.std.specs.Prelude.{◌≡◌, ◌<◌, ◌≤◌, List, IfSome, Some, length, slice_get};
+ghost use Rattle.m88_event.specs.Letters.{most_letters};
+ghost use Rattle.m88_tasks.specs.Letters.{IsShareSchedule, share_letter_at, share_letter_of};
 ghost use Rattle.m88_tasks.specs.declared.letter.ShareLetter.{ShareLetter as ShareLetterValue};
 
 use crate::letter::ShareLetter;
-use m88_event::Letter;
+use m88_event::{Letter, letters_in};
 use std::marker::Model;
-
-/// The most letters of a schedule.
-const MOST_LETTERS: usize = 65_536;
 
 /// The letters that a shared run begins with, at most 65,536. It is lent the text that it was read from.
 #[derive(Drop, Debug)]
@@ -20,15 +17,15 @@ pub struct ShareSchedule<'a> {
 
 impl<'a> Model for ShareSchedule<'a> {
     ghost use Rattle.std.specs.Prelude.{List, ◌≤◌, length, map};
-    ghost use Rattle.m88_event.specs.Letters.{most_letters};
-    ghost use Rattle.m88_tasks.specs.Letters.{AreShareLetters, share_letter_of};
+    ghost use Rattle.m88_event.specs.Letters.{AreLetters, most_letters};
+    ghost use Rattle.m88_tasks.specs.Letters.{beside_own, share_letter_of};
     ghost use Rattle.m88_tasks.specs.declared.letter.ShareLetter.{ShareLetter as ShareLetterValue};
 
     ghost Value = { List ShareLetterValue };
 
     ghost view = { λ s. map share_letter_of s.letters.now };
 
-    ghost invariant = { λ s. AreShareLetters s.letters.now
+    ghost invariant = { λ s. AreLetters beside_own s.letters.now
         × (length s.letters.now ≤ most_letters) };
 }
 
@@ -40,14 +37,8 @@ impl<'a> ShareSchedule<'a> {
         ensures only { (letters : List ShareLetterValue)
             → IsShareSchedule text.now letters → result ≡ Some letters }
     {
-        let bytes = text.as_bytes();
-        if is_dash(bytes) {
-            Some(ShareSchedule { letters: &[] })
-        } else if are_letters(bytes) {
-            Some(ShareSchedule { letters: bytes })
-        } else {
-            None
-        }
+        let letters = letters_in(text, b"t")?;
+        Some(ShareSchedule { letters })
     }
 
     /// How many letters there are.
@@ -71,43 +62,20 @@ impl<'a> ShareSchedule<'a> {
         ensures { result ≡ share_letter_at self.now k }
     {
         if k < self.len() {
-            return self.letter(k);
-        }
-        if (k - self.len()) % 2 == 0 {
-            ShareLetter::Own(Letter::Answer)
+            self.letter(k)
         } else {
-            ShareLetter::Own(Letter::Issue)
+            ShareLetter::Own(Letter::in_turn(k - self.len()))
         }
     }
 }
 
-/// Whether it is `-` alone.
-fn is_dash(bytes: &[u8]) -> bool
-    ensures { IsTrue result ↔ (bytes.now ≡ 0x2D ∷ []) }
-{
-    if let [b'-'] = bytes { true } else { false }
-}
-
-/// Whether it is 1 to 65,536 bytes `i`, `r`, `e` and `t`.
-fn are_letters(bytes: &[u8]) -> bool
-    ensures { IsTrue result ↔ HasShareLetters bytes.now }
-{
-    1 <= bytes.len()
-        && bytes.len() <= MOST_LETTERS
-        && bytes.iter().all(|byte| *byte == b't' || *byte == b'i' || *byte == b'r' || *byte == b'e')
-}
-
-/// The letter of a byte, `r` for any but `t`, `i` and `e`.
+/// The letter of a byte: `t`, or that of the program that runs.
 fn letter_of(byte: u8) -> ShareLetter
     ensures { result ≡ share_letter_of byte }
 {
     if byte == b't' {
         ShareLetter::Turn
-    } else if byte == b'i' {
-        ShareLetter::Own(Letter::Issue)
-    } else if byte == b'e' {
-        ShareLetter::Own(Letter::Evict)
     } else {
-        ShareLetter::Own(Letter::Answer)
+        ShareLetter::Own(Letter::of_byte(byte))
     }
 }

@@ -1,8 +1,7 @@
 -- The letter of an event is the schedule's, or comes in turn.
-use Rattle.std.specs.Prelude.{Option, unwrap_or, ◌≡◌, ◌-◌, ◌%◌, ◌==◌, length, true, false}
-use Rattle.std.proofs.Common.{ap, arith, sym}
-use Rattle.std.proofs.lemmas.Bool.Decides.{nat_tests}
-use Rattle.m88_event.proofs.Bound.{behind}
+use Rattle.std.specs.Prelude.{ℕ, Option, unwrap_or, ◌-◌, length}
+use Rattle.std.proofs.Common.{ap, arith, sym, ◌∙◌}
+use Rattle.m88_event.proofs.Letters.{in_turn_behind}
 use Rattle.m88_event.specs.Letters.{in_turn, letter_at}
 use Rattle.m88_event.specs.declared.letter.Letter.{Letter}
 use Rattle.m88_event.proofs.schedule.Schedule.letter_at.Goals as goal
@@ -12,12 +11,7 @@ unfolding letter_at
 returns-then-k-len c =
     sym (ap (λ (letter : Option Letter). unwrap_or letter (in_turn (c.args.k - length c.args.self.now))) c.letter.ensures)
 
-pub returns-then-k-len-eq0 : goal.returns-then-k-len-eq0
-returns-then-k-len-eq0 c =
-    let even : ((c.args.k - length c.args.self.now) % 2 == 0) ≡ true = grind (arith, nat_tests) in
-    sym (behind c.args.self.now c.args.k true (omega arith) even)
-
-pub returns-else-k-len-eq0 : goal.returns-else-k-len-eq0
-returns-else-k-len-eq0 c =
-    let odd : ((c.args.k - length c.args.self.now) % 2 == 0) ≡ false = grind (arith, nat_tests) in
-    sym (behind c.args.self.now c.args.k false (omega arith) odd)
+pub returns-else-k-len : goal.returns-else-k-len
+returns-else-k-len c =
+    c.in_turn.ensures ∙ ap (λ (n : ℕ). in_turn (c.args.k - n)) c.len-else-k-len.ensures.value
+    ∙ sym (in_turn_behind c.args.self.now c.args.k (omega arith))
