@@ -94,12 +94,12 @@ came_to p m most image f g o words told now is same value carried flushed change
 
 -- a run that is over has its events, and came to what the last moment says
 pub ends : (p : Program) {named : ℕ → Bool} {limit : ℕ} {schedule : List Letter} {k most : ℕ} (image : ProgramImage)
-    {b last : BoardView} {f : Paging} {told now : Option PageMap} {o : Paged} → IsImage image → IsProgramOf image p →
+    {b last : BoardView} {f : Paging} {told now : Option PageMap} {writes writes' : Option ℕ} {o : Paged} → IsImage image → IsProgramOf image p →
     b.limit ≡ limit →
     is_over_by b.limit (local_of b) ≡ true →
     IsThere p named limit schedule k (image_bytes image) most b f told →
     last ≡ b →
-    IsFinished image last f told now o →
+    IsFinished image last f told now writes writes' o →
     IsRun p named limit schedule k × CameTo p most (moment_after p named limit schedule k) o now
 ends p {named} {limit} {schedule} {k} {most} image {b} {last} {f} {told} is of limits over there same finished =
     let m : Moment = moment_after p named limit schedule k in

@@ -1,5 +1,5 @@
 -- Why a paged run ended without an outcome.
-use Rattle.std.specs.Prelude.{ℕ, Option, Result, IsErrOf, ◌≡◌, ◌≤◌, is_some}
+use Rattle.std.specs.Prelude.{ℕ, Option, Result, IsErrOf, OnOk, ◌≡◌, ◌≤◌, is_some}
 use Rattle.m88_base.specs.Causes.{Rose}
 use Rattle.m88_pager.specs.Store.{PageMap}
 use Rattle.m88_pager.specs.declared.paged.PageEnd.{PageEnd}
@@ -16,10 +16,11 @@ end_of error.Memory = end.Memory
 abbrev pub EndsByCount : {T : Type 0} → ℕ → ℕ → Result T PageEnd → Type 0
 EndsByCount before after result = IsErrOf result end.StoreFault → Rose before after
 
--- a call that uses a store: the store tells its pages where it did before, the count of faults doesn't fall, and the
--- call ends by a fault of the store only where the count rose
+-- a call that uses a store: the store tells its pages where it did before; the count of faults doesn't fall, and stays
+-- where no error is answered; and the call ends by a fault of the store only where the count rose
 pub record UsesStore {T : Type 0} (told told' : Option PageMap) (faults faults' : ℕ) (result : Result T PageEnd) :
     Type 0 where
   pub tells : is_some told' ≡ is_some told
+  pub clean : OnOk result (faults' ≡ faults)
   pub grows : faults ≤ faults'
   pub fault : EndsByCount faults faults' result

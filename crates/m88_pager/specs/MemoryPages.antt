@@ -11,6 +11,8 @@ use Rattle.m88_pager.specs.declared.store.StoreError.TheVariants.{Failed, Memory
 pub record MemoryPages : Type 0 where
   -- the pages that it holds
   pub held : PageMap
+  -- how often a page was put in
+  pub writes : ℕ
   -- how often it has failed
   pub faults : ℕ
   -- how many calls were made
@@ -21,10 +23,11 @@ pub record MemoryPages : Type 0 where
 -- it is stored as its parts
 abbrev pub memory_pages_code : Coded MemoryPages
 memory_pages_code =
-    code_by (PageMap × (ℕ × (ℕ × List ℕ)))
-    (coded× (code coded_ℕ (coded_list coded_ℕ)) (coded× coded_ℕ (coded× coded_ℕ (coded_list coded_ℕ))))
-    (λ s. (s.held, (s.faults, (s.calls, s.failing))))
-    (λ p. record { held = p.0; faults = p.1.0; calls = p.1.1.0; failing = p.1.1.1 }) (λ _. refl)
+    code_by (PageMap × (ℕ × (ℕ × (ℕ × List ℕ))))
+    (coded× (code coded_ℕ (coded_list coded_ℕ))
+    (coded× coded_ℕ (coded× coded_ℕ (coded× coded_ℕ (coded_list coded_ℕ)))))
+    (λ s. (s.held, (s.writes, (s.faults, (s.calls, s.failing)))))
+    (λ p. record { held = p.0; writes = p.1.0; faults = p.1.1.0; calls = p.1.1.1.0; failing = p.1.1.1.1 }) (λ _. refl)
 
 -- the pages of entries, each a page's number and its bytes
 abbrev pub held_in : {A : Type 0} → List (ℕ × Vec ℕ A) → PageMap
@@ -40,4 +43,9 @@ faults_by before (Err Memory) = before
 pub record IsCallCounted {T : Type 0} (old new : MemoryPages) (result : Result T StoreError) : Type 0 where
   pub fails : (result ≡ Err Failed) ↔ Contains old.failing old.calls
   pub grows : old.faults ≤ new.faults
-  pub stays : new ≡ record old { held = new.held; faults = faults_by old.faults result; calls = one_more old.calls }
+  pub stays : new ≡ record old {
+    held = new.held;
+    writes = new.writes;
+    faults = faults_by old.faults result;
+    calls = one_more old.calls;
+  }

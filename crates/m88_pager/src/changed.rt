@@ -32,8 +32,8 @@ pub(crate) fn changed_words<P: PageStore>(
 ) -> Result<Vec<(u32, u32)>, PageEnd>
     ensures changed { IfOk result (λ words. AreChanged (image_bytes image.now)
         (λ q. contains nat_cmp held.now q) (P.pages store.old) (2 ^ 30) words.items) }
-    ensures store { ReadsStore (P.pages store.old) (P.pages store.new) (P.faults store.old)
-        (P.faults store.new) result }
+    ensures store { ReadsStore (P.pages store.old) (P.pages store.new) (P.writes store.old)
+        (P.writes store.new) (P.faults store.old) (P.faults store.new) result }
 {
     let mut changed = Vec::new(alloc);
     let mut from = 0;
@@ -67,8 +67,8 @@ fn append_page<P: PageStore>(
         changed.old.items
         → AreChanged (image_bytes image.now) held (P.pages store.old) ((page + 1) * page_words)
         changed.new.items) }
-    ensures store { ReadsStore (P.pages store.old) (P.pages store.new) (P.faults store.old)
-        (P.faults store.new) result }
+    ensures store { ReadsStore (P.pages store.old) (P.pages store.new) (P.writes store.old)
+        (P.writes store.new) (P.faults store.old) (P.faults store.new) result }
 {
     let before = original_page(alloc, image, page)?;
     let mut after = original_page(alloc, image, page)?;

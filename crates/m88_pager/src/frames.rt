@@ -9,7 +9,7 @@ ghost use Rattle.m88_isa.specs.Memory.{IsWordAccess};
 ghost use Rattle.m88_isa.specs.Triples.{access_in};
 ghost use Rattle.m88_mem.specs.DataBus.{image_bytes};
 ghost use Rattle.m88_pager.specs.Ends.{UsesStore};
-ghost use Rattle.m88_pager.specs.Inside.Calls.{AreCarriedOn, AreEmpty, AreFlushed, HasFreed, HasLeft, HasPlace, HasPutOut, IsPutBack, IsTakenOut, IsWorked, MayFlush, MayLeave, ReadsStore};
+ghost use Rattle.m88_pager.specs.Inside.Calls.{AreCarriedOn, AreEmpty, AreFlushed, HasFreed, HasLeft, HasPlace, HasPutOut, IsPutBack, IsTakenOut, IsWorked, MayFlush, MayLeave, PutsOut, ReadsStore};
 ghost use Rattle.m88_pager.specs.Inside.Seen.{ComesFrom, IsWithin, IsWordTriple, held_by, most_counted};
 ghost use Rattle.m88_pager.specs.Pages.{page_of};
 ghost use Rattle.m88_pager.specs.Store.{IsPageOf};
@@ -70,6 +70,8 @@ impl Frames {
         requires few { self.old.outs < 2 ^ 32 - 1 }
         ensures out { OnOk result (HasPutOut page bytes.now self.old self.new (P.pages store.old)
             (P.pages store.new)) }
+        ensures written { OnOk result (PutsOut self.old.outs self.new.outs (P.writes store.old)
+            (P.writes store.new)) }
         ensures store { UsesStore (P.pages store.old) (P.pages store.new) (P.faults store.old)
             (P.faults store.new) result }
     {
@@ -85,6 +87,8 @@ impl Frames {
         requires may { MayLeave self.old }
         ensures left { OnOk result (HasLeft self.old self.new (P.pages store.old)
             (P.pages store.new)) }
+        ensures written { OnOk result (PutsOut self.old.outs self.new.outs (P.writes store.old)
+            (P.writes store.new)) }
         ensures store { UsesStore (P.pages store.old) (P.pages store.new) (P.faults store.old)
             (P.faults store.new) result }
     {
@@ -104,6 +108,8 @@ impl Frames {
         requires { MayLeave self.old }
         ensures freed { OnOk result (HasFreed self.old self.new (P.pages store.old)
             (P.pages store.new)) }
+        ensures written { OnOk result (PutsOut self.old.outs self.new.outs (P.writes store.old)
+            (P.writes store.new)) }
         ensures store { UsesStore (P.pages store.old) (P.pages store.new) (P.faults store.old)
             (P.faults store.new) result }
     {
@@ -124,8 +130,8 @@ impl Frames {
         ensures size { IfOk result (λ bytes. length bytes.items ≡ page_bytes) }
         ensures comes { IfOk result (λ bytes. ComesFrom (page_of (image_bytes image.now))
             (held_by self.now) (P.pages store.old) page bytes.items) }
-        ensures store { ReadsStore (P.pages store.old) (P.pages store.new) (P.faults store.old)
-            (P.faults store.new) result }
+        ensures store { ReadsStore (P.pages store.old) (P.pages store.new) (P.writes store.old)
+            (P.writes store.new) (P.faults store.old) (P.faults store.new) result }
     {
         let mut bytes = original_page(self.alloc, image, page)?;
         if !self.held.contains(&page) {
@@ -147,6 +153,8 @@ impl Frames {
         requires apart { lookup (nat_eq page) self.old.cache.entries ≡ None }
         ensures out { IfOk result (λ frame. IsTakenOut (page_of (image_bytes image.now)) page frame
             self.old self.new (P.pages store.old) (P.pages store.new)) }
+        ensures written { OnOk result (PutsOut self.old.outs self.new.outs (P.writes store.old)
+            (P.writes store.new)) }
         ensures store { UsesStore (P.pages store.old) (P.pages store.new) (P.faults store.old)
             (P.faults store.new) result }
     {
@@ -170,6 +178,8 @@ impl Frames {
         requires within { IsWithin most_counted self.old }
         ensures out { IfOk result (λ frame. IsTakenOut (page_of (image_bytes image.now)) page frame
             self.old self.new (P.pages store.old) (P.pages store.new)) }
+        ensures written { OnOk result (PutsOut self.old.outs self.new.outs (P.writes store.old)
+            (P.writes store.new)) }
         ensures store { UsesStore (P.pages store.old) (P.pages store.new) (P.faults store.old)
             (P.faults store.new) result }
     {
@@ -205,6 +215,8 @@ impl Frames {
         requires within { IsWithin most_counted self.old }
         ensures carried { OnOk result (AreCarriedOn (image_bytes image.now) (access.now ∷ [])
             self.old self.new (P.pages store.old) (P.pages store.new)) }
+        ensures written { OnOk result (PutsOut self.old.outs self.new.outs (P.writes store.old)
+            (P.writes store.new)) }
         ensures store { UsesStore (P.pages store.old) (P.pages store.new) (P.faults store.old)
             (P.faults store.new) result }
     {
@@ -225,6 +237,8 @@ impl Frames {
         requires within { IsWithin (most_counted - most_pending) self.old }
         ensures carried { OnOk result (AreCarriedOn (image_bytes image.now)
             (map access_in words.now) self.old self.new (P.pages store.old) (P.pages store.new)) }
+        ensures written { OnOk result (PutsOut self.old.outs self.new.outs (P.writes store.old)
+            (P.writes store.new)) }
         ensures store { UsesStore (P.pages store.old) (P.pages store.new) (P.faults store.old)
             (P.faults store.new) result }
     {
@@ -239,6 +253,8 @@ impl Frames {
         requires { MayFlush self.old }
         ensures flushed { OnOk result (AreFlushed self.old self.new (P.pages store.old)
             (P.pages store.new)) }
+        ensures written { OnOk result (PutsOut self.old.outs self.new.outs (P.writes store.old)
+            (P.writes store.new)) }
         ensures store { UsesStore (P.pages store.old) (P.pages store.new) (P.faults store.old)
             (P.faults store.new) result }
     {

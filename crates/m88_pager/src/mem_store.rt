@@ -21,6 +21,7 @@ pub struct MemStore {
     alloc: Global,
     pages: BTreeMap<u32, Vec<u8>>,
     failing: Vec<u32>,
+    writes: u64,
     calls: u64,
     faults: u64,
 }
@@ -38,6 +39,7 @@ impl Model for MemStore {
 
     ghost view = { λ s. record {
       held = held_in s.pages.entries;
+      writes = s.writes;
       faults = s.faults;
       calls = s.calls;
       failing = s.failing.items;
@@ -52,6 +54,7 @@ impl MemStore {
     pub fn new(alloc: Global, failing: &[u32]) -> Result<MemStore, NoMemory>
         ensures { IfOk result (λ store. store ≡ record {
           held = empty;
+          writes = 0;
           faults = 0;
           calls = 0;
           failing = failing.now;
@@ -62,6 +65,7 @@ impl MemStore {
             alloc,
             pages: BTreeMap::new(alloc),
             failing,
+            writes: 0,
             calls: 0,
             faults: 0,
         })
@@ -71,6 +75,7 @@ impl MemStore {
     fn count(&mut self) -> Result<(), StoreError>
         ensures counts { IsCallCounted self.old self.new result }
         ensures held { self.new.held ≡ self.old.held }
+        ensures writes { self.new.writes ≡ self.old.writes }
         ensures failed { IfErr result (λ error. error ≡ Failed) }
     {
         let fails = is_failing(&self.failing, self.calls);
@@ -86,12 +91,14 @@ impl MemStore {
 impl PageStore for MemStore {
     ghost pages = { λ s. Some s.held };
 
+    ghost writes = { λ s. Some s.writes };
+
     ghost faults = { λ s. s.faults };
 
     fn read(&mut self, page: u32, into: &mut [u8]) -> Result<bool, StoreError>
         requires { IsPageOf page into.old }
-        ensures read { IsPageRead (Some self.old.held) (Some self.new.held) self.old.faults
-            self.new.faults page into.old into.new result }
+        ensures read { IsPageRead (Some self.old.held) (Some self.new.held) (Some self.old.writes)
+            (Some self.new.writes) self.old.faults self.new.faults page into.old into.new result }
         ensures counts { IsCallCounted self.old self.new result }
     {
         self.count()?;
@@ -100,16 +107,23 @@ impl PageStore for MemStore {
 
     fn write(&mut self, page: u32, bytes: &[u8]) -> Result<(), StoreError>
         requires { IsPageOf page bytes.now }
-        ensures written { IsPageWritten (Some self.old.held) (Some self.new.held) self.old.faults
-            self.new.faults page bytes.now result }
+        ensures written { IsPageWritten (Some self.old.held) (Some self.new.held) (Some self.old.writes)
+            (Some self.new.writes) self.old.faults self.new.faults page bytes.now result }
         ensures counts { IsCallCounted self.old self.new result }
     {
         self.count()?;
         let Ok(copy) = Vec::from_slice(self.alloc, bytes) else {
             return Err(StoreError::Memory);
         };
+        // A page that can't be counted isn't put in, so that the count is exact.
+        let Some(writes) = self.writes.checked_add(1) else {
+            return Err(StoreError::Memory);
+        };
         match self.pages.insert(page, copy) {
-            Ok(_) => Ok(()),
+            Ok(_) => {
+                self.writes = writes;
+                Ok(())
+            }
             Err(_) => Err(StoreError::Memory),
         }
     }

@@ -14,6 +14,7 @@ ghost use Rattle.m88_board.specs.Board.{local_of};
 ghost use Rattle.m88_board.specs.Kept.{most_retired};
 ghost use Rattle.m88_board.specs.Moves.{IsAt};
 ghost use Rattle.m88_pager.specs.Ends.{UsesStore};
+ghost use Rattle.m88_pager.specs.Inside.Calls.{PutsOut};
 ghost use Rattle.m88_pager.specs.Inside.Came.{HasPagedStep, IsFinished};
 ghost use Rattle.m88_pager.specs.Inside.Seen.{IsWithin};
 ghost use Rattle.m88_pager.specs.Paged.{HoldsNoneWhereTold, IsPagedRun, most_frames};
@@ -49,7 +50,7 @@ pub fn page_run<P: PageStore>(
     requires empty { HoldsNoneWhereTold (P.pages store.old) }
     ensures run { IfOk result (λ o. (p : Program) → IsProgramOf image.now p → p.mxm ≡ false
         → IsPagedRun p (absent_in absent.now) limit schedule.now frames (P.pages store.old)
-        (P.pages store.new) o) }
+        (P.pages store.new) (P.writes store.old) (P.writes store.new) o) }
     ensures only { (p : Program) (named : ℕ → Bool) (o other : OutcomeValue)
         → IsOutcome p named limit schedule.now o → IsOutcome p named limit schedule.now other
         → o ≡ other }
@@ -93,6 +94,8 @@ fn step<P: PageStore>(
     requires within { IsWithin walk.old.board.now.done paging.old }
     ensures stepped { OnOk result (HasPagedStep (image_bytes image.now) walk.old walk.new paging.old
         paging.new (P.pages store.old) (P.pages store.new)) }
+    ensures written { OnOk result (PutsOut paging.old.outs paging.new.outs (P.writes store.old)
+        (P.writes store.new)) }
     ensures store { UsesStore (P.pages store.old) (P.pages store.new) (P.faults store.old)
         (P.faults store.new) result }
 {
@@ -117,7 +120,7 @@ fn finish<P: PageStore>(
     requires within { IsWithin board.done paging }
     requires cap { paging.cache.cap ≤ most_frames }
     ensures finished { IfOk result (IsFinished image.now board paging (P.pages store.old)
-        (P.pages store.new)) }
+        (P.pages store.new) (P.writes store.old) (P.writes store.new)) }
     ensures store { UsesStore (P.pages store.old) (P.pages store.new) (P.faults store.old)
         (P.faults store.new) result }
 {

@@ -23,6 +23,9 @@ pub trait PageStore {
     // The pages that it holds, where the store tells them.
     ghost pages: { Self → Option (FinMap nat_cmp (List ℕ)) };
 
+    // How often a page was put in, where the store tells it.
+    ghost writes: { Self → Option ℕ };
+
     // How often the store has failed, a count that never falls.
     ghost faults: { Self → ℕ };
 
@@ -30,13 +33,12 @@ pub trait PageStore {
     /// as before.
     fn read(&mut self, page: u32, into: &mut [u8]) -> Result<bool, StoreError>
         requires { IsPageOf page into.old }
-        ensures { IsPageRead (pages self.old) (pages self.new) (faults self.old) (faults self.new)
-            page into.old into.new result };
+        ensures { IsPageRead (pages self.old) (pages self.new) (writes self.old) (writes self.new)
+            (faults self.old) (faults self.new) page into.old into.new result };
 
     /// Puts a page in, in place of one of this number. Where it answers an error, the pages are as before.
     fn write(&mut self, page: u32, bytes: &[u8]) -> Result<(), StoreError>
         requires { IsPageOf page bytes.now }
-        ensures { IsPageWritten (pages self.old) (pages self.new)
-            (faults self.old) (faults self.new)
-            page bytes.now result };
+        ensures { IsPageWritten (pages self.old) (pages self.new) (writes self.old) (writes self.new)
+            (faults self.old) (faults self.new) page bytes.now result };
 }

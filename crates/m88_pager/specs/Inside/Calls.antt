@@ -1,5 +1,5 @@
 -- What a call makes of frames and of the store behind them, which tells its pages as they are before it and after it.
-use Rattle.std.specs.Prelude.{ℕ, Bool, true, false, List, [], ◌∷◌, ◌++◌, ◌==◌, All, Option, Result, ◌≡◌, ◌≤◌, ◌<◌, ◌+◌, ◌-◌, ◌^◌, None, length, map, nat_eq, option_map, take, if◌then◌else◌}
+use Rattle.std.specs.Prelude.{ℕ, Bool, true, false, List, [], ◌∷◌, ◌++◌, ◌==◌, All, OnOk, Option, Result, ◌≡◌, ◌≤◌, ◌<◌, ◌+◌, ◌-◌, ◌^◌, None, length, map, nat_eq, option_map, take, if◌then◌else◌}
 use Rattle.std.specs.FinMap.{insert}
 use Rattle.std.specs.Map.{lookup}
 use Rattle.m88_base.specs.Pages.{page_bytes, page_number}
@@ -15,13 +15,19 @@ use Rattle.m88_pager.specs.declared.frames.Frame.{Frame}
 use Rattle.m88_pager.specs.declared.frames.Frames.{Frames}
 use Rattle.m88_pager.specs.declared.paged.PageEnd.{PageEnd}
 
--- a call that only reads a store: the pages stay, the count of faults doesn't fall, and the call ends by a fault of the
--- store only where the count rose
-pub record ReadsStore {T : Type 0} (told told' : Option PageMap) (faults faults' : ℕ) (result : Result T PageEnd) :
-    Type 0 where
+-- a call that only reads a store: the pages and the count of writes stay; the count of faults doesn't fall, and stays
+-- where no error is answered; and the call ends by a fault of the store only where the count rose
+pub record ReadsStore {T : Type 0} (told told' : Option PageMap) (writes writes' : Option ℕ) (faults faults' : ℕ)
+    (result : Result T PageEnd) : Type 0 where
   pub same : told' ≡ told
+  pub unwritten : writes' ≡ writes
+  pub clean : OnOk result (faults' ≡ faults)
   pub grows : faults ≤ faults'
   pub fault : EndsByCount faults faults' result
+
+-- pages were put into a store, as many as are counted more than before that went out, where it tells how often one was
+abbrev pub PutsOut : ℕ → ℕ → Option ℕ → Option ℕ → Type 0
+PutsOut outs outs' writes writes' = option_map (λ n. n + outs) writes' ≡ option_map (λ n. n + outs') writes
 
 -- so many frames in which no page stands, with no page written to the store and nothing counted
 pub record AreEmpty (count : ℕ) (f : Frames) : Type 0 where

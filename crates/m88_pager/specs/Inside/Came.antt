@@ -13,7 +13,7 @@ use Rattle.m88_isa.specs.History.{transactions}
 use Rattle.m88_isa.specs.Bus.{in_words}
 use Rattle.m88_isa.specs.Machine.{IsProgram, Program, opening, state}
 use Rattle.m88_mem.specs.DataBus.{image_bus, image_bytes}
-use Rattle.m88_pager.specs.Inside.Calls.{AreCarriedOn}
+use Rattle.m88_pager.specs.Inside.Calls.{AreCarriedOn, PutsOut}
 use Rattle.m88_pager.specs.Inside.Seen.{AreCarried, IsWithin}
 use Rattle.m88_pager.specs.Paged.{AreCounts, Tells}
 use Rattle.m88_pager.specs.Pages.{HoldsWhereTold, writes_page}
@@ -41,9 +41,10 @@ pub record HasPagedStep (original : ℕ → ℕ) (w v : Walk) (f g : Frames) (to
   pub carried : AreCarriedOn original (take (v.board.now.done - w.board.now.done) w.board.now.pending) f g told told'
 
 -- what a run comes to at a board that is over, by the frames and the store there
-pub record IsFinished (image : ProgramImage) (b : BoardView) (f : Frames) (told told' : Option PageMap) (o : Paged) :
-    Type 0 where
+pub record IsFinished (image : ProgramImage) (b : BoardView) (f : Frames) (told told' : Option PageMap)
+    (writes writes' : Option ℕ) (o : Paged) : Type 0 where
   pub came : (p : Program) (named : ℕ → Bool) (m : Moment) (most : ℕ) → IsProgram p
       → image_bus image ≡ in_words (opening p).memory → IsAt p named m b → is_over p b.limit m ≡ true
       → AreCarried (image_bytes image) most (transactions p m.retired) f told → CameTo p most m o told'
   pub events : o.outcome.events ≡ b.events
+  pub written : PutsOut f.outs o.outs writes writes'

@@ -174,6 +174,8 @@ struct Forgetful;
 impl PageStore for Forgetful {
     ghost pages = { λ _. None };
 
+    ghost writes = { λ _. None };
+
     ghost faults = { λ _. 0 };
 
     fn read(&mut self, _page: u32, _into: &mut [u8]) -> Result<bool, StoreError> {

@@ -16,7 +16,8 @@ loop-page-init g c = record {
   changed = λ bus written s bytes news. c.new-changed.ensures.items;
   within = omega arith;
   same = λ i. g.P.PageStore.pages c.args.store.now;
-  grows = omega arith;
+  unwritten = λ i. g.P.PageStore.writes c.args.store.now;
+  clean = λ i. g.P.PageStore.faults c.args.store.now;
 }
 
 pub loop-page-preserved : goal.loop-page-preserved
@@ -24,8 +25,6 @@ loop-page-preserved g c =
     let inv = c.loop-page.invariant in
     let found = c.in-Some.ensures.next in
     let page = found.number in
-    let before = inv.grows in
-    let more = c.append_page.ensures.store.grows in
     let held = λ (q : ℕ). contains nat_cmp c.args.held.now q in
     let original = image_bytes c.args.image.now in
     let up = none_up original held (g.P.PageStore.pages c.args.store.now) c.loop-page.from c.in-Some.page c.loop-page.changed.items found.behind found.next inv.changed in
@@ -37,7 +36,8 @@ loop-page-preserved g c =
       changed = step up;
       within = omega (arith, page);
       same = c.append_page.ensures.store.same ∙ inv.same;
-      grows = omega (arith, before, more);
+      unwritten = c.append_page.ensures.store.unwritten ∙ inv.unwritten;
+      clean = c.in_ok-append_page.ensures.store.clean ∙ inv.clean;
     }
 
 pub returns-clause-changed : goal.returns-clause-changed

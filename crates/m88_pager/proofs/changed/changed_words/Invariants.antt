@@ -13,7 +13,8 @@ invariant-loop-page g l = record {
       (l.from * page_words) l.changed.items;
   within : l.from ≤ page_count;
   same : g.P.PageStore.pages l.store ≡ g.P.PageStore.pages l.initial.store;
-  grows : g.P.PageStore.faults l.initial.store ≤ g.P.PageStore.faults l.store;
+  unwritten : g.P.PageStore.writes l.store ≡ g.P.PageStore.writes l.initial.store;
+  clean : g.P.PageStore.faults l.store ≡ g.P.PageStore.faults l.initial.store;
 }
 
 abbrev pub decreases-loop-page : goal.decreases-loop-page

@@ -3,6 +3,7 @@ use Rattle.std.specs.Prelude.{ℕ, List, Option}
 use Rattle.std.proofs.Common.{sym, subst}
 use Rattle.m88_event.specs.declared.outcome.Outcome.{Outcome}
 use Rattle.m88_pager.proofs.CameTo.{came_to}
+use Rattle.m88_pager.specs.Inside.Calls.{PutsOut}
 use Rattle.m88_pager.specs.Inside.Came.{CameTo}
 use Rattle.m88_pager.specs.Store.{PageMap}
 use Rattle.m88_pager.proofs.running.finish.Goals as goal
@@ -22,4 +23,7 @@ returns-clause-finished g c =
           (g.P.PageStore.pages c.flush.new.store) is same (c.in_ok-outcome.ensures.moment p named m at over) carried
           c.in_ok-flush.ensures.flushed c.in_ok-changed.ensures.changed));
       events = c.in_ok-outcome.ensures.events;
+      written =
+          subst (PutsOut c.args.paging.outs flushed.outs (g.P.PageStore.writes c.args.store.now))
+          (sym c.in_ok-changed.ensures.store.unwritten) c.in_ok-flush.ensures.written;
     }

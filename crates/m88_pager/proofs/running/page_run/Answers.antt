@@ -14,6 +14,8 @@ use Rattle.m88_mem.specs.DataBus.{image_bytes}
 use Rattle.m88_mem.specs.Marks.{absent_in}
 use Rattle.m88_pager.proofs.CameTo.{ends}
 use Rattle.m88_pager.proofs.Laws.{one_retired}
+use Rattle.m88_pager.proofs.Written.{all_put, then_put}
+use Rattle.m88_pager.specs.Inside.Calls.{PutsOut}
 use Rattle.m88_pager.proofs.Walking.{bytes_there, none_carried, none_within, over_shown, tells_on, there_first, there_next}
 use Rattle.m88_pager.proofs.running.page_run.Goals as goal
 
@@ -30,7 +32,9 @@ loop-walk-init g c =
       within = none_within c.new-walk.result.board.now.done opened;
       cap = cap;
       tells = refl;
-      grows = omega arith;
+      clean = refl;
+      written =
+          subst (λ (n : ℕ). PutsOut 0 n (g.P.PageStore.writes c.args.store.now) (g.P.PageStore.writes c.args.store.now)) (sym opened.outs) refl;
       there = λ p of clear.
           let named = absent_in c.args.absent.now in
           there_first p named c.args.limit c.args.schedule.now c.new-walk.result.taken (image_bytes c.args.image.now)
@@ -48,8 +52,6 @@ loop-walk-preserved g c =
     let goes : is_over_by c.args.limit (local_of c.loop-walk.walk.board.now) ≡ false =
     ap (λ (n : ℕ). is_over_by n (local_of c.loop-walk.walk.board.now)) (sym inv.limit)
     ∙ over_shown c.board-in-loop-walk.ensures c.is_over.ensures.value ∙ c.loop-walk-test.true in
-    let older = inv.grows in
-    let newer = c.step.ensures.store.grows in
     record {
       limit = stepped.stays.same.limit ∙ inv.limit;
       schedule = ap (λ (s : Bor (List Letter)). s.now) stepped.stays.schedule ∙ inv.schedule;
@@ -57,7 +59,8 @@ loop-walk-preserved g c =
       within = stepped.within;
       cap = stepped.carried.cap ∙ inv.cap;
       tells = c.step.ensures.store.tells ∙ inv.tells;
-      grows = omega (arith, older, newer);
+      clean = c.in_ok-step.ensures.store.clean ∙ inv.clean;
+      written = then_put 0 _ _ _ _ _ inv.written c.in_ok-step.ensures.written;
       there = λ p of clear.
           there_next inv.limit inv.schedule stepped.taken goes (inv.there p of clear)
           (λ m at. stepped.at p (absent_in c.args.absent.now) m at) (stepped.carried.carried c.args.frames);
@@ -97,6 +100,7 @@ returns-clause-run g c = IfOk-weaker c.finish.result _ _
       alone = λ named others other run.
           one_retired p c.args.limit named absent others letters other (record o.outcome { changed = changed }) run but_words;
       held = ended.1.pages;
+      written = all_put o.outs _ _ (then_put 0 _ _ _ _ _ inv.written finished.written);
     })
     c.finish.ensures.finished
 

@@ -1,5 +1,5 @@
 -- The board and its frames stand where the letters taken lead them.
-use Rattle.std.proofs.Common.{◌≡◌, ◌≤◌, false, is_some}
+use Rattle.std.proofs.Common.{◌≡◌, false, is_some}
 use Rattle.m88_event.specs.Bound.{weight}
 use Rattle.m88_isa.specs.ImageProgram.{IsProgramOf}
 use Rattle.m88_isa.specs.Machine.{Program}
@@ -7,6 +7,7 @@ use Rattle.m88_mem.specs.DataBus.{image_bytes}
 use Rattle.m88_mem.specs.Marks.{absent_in}
 use Rattle.m88_board.specs.Board.{local_of}
 use Rattle.m88_pager.proofs.Walking.{IsThere}
+use Rattle.m88_pager.specs.Inside.Calls.{PutsOut}
 use Rattle.m88_pager.specs.Inside.Seen.{IsWithin}
 use Rattle.m88_pager.proofs.running.page_run.Given as goal
 
@@ -18,7 +19,8 @@ invariant-loop-walk g l = record {
   within : IsWithin l.walk.board.now.done l.paging;
   cap : l.paging.cache.cap ≡ l.frames;
   tells : is_some (g.P.PageStore.pages l.store) ≡ is_some (g.P.PageStore.pages l.initial.store);
-  grows : g.P.PageStore.faults l.initial.store ≤ g.P.PageStore.faults l.store;
+  clean : g.P.PageStore.faults l.store ≡ g.P.PageStore.faults l.initial.store;
+  written : PutsOut 0 l.paging.outs (g.P.PageStore.writes l.initial.store) (g.P.PageStore.writes l.store);
   there : (p : Program) → IsProgramOf l.image p → p.mxm ≡ false
       → IsThere p (absent_in l.absent) l.limit l.fn.schedule l.walk.taken (image_bytes l.image) l.frames
       l.walk.board.now l.paging (g.P.PageStore.pages l.store);

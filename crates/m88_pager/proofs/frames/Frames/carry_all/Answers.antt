@@ -9,6 +9,7 @@ use Rattle.m88_isa.specs.declared.planned.Access.{Access}
 use Rattle.m88_mem.specs.DataBus.{image_bytes}
 use Rattle.m88_pager.proofs.Carrying.{none_on, on_and_on}
 use Rattle.m88_pager.proofs.Words.{one_mapped}
+use Rattle.m88_pager.proofs.Written.{then_put}
 use Rattle.m88_pager.specs.Inside.Calls.{AreCarriedOn}
 use Rattle.m88_pager.specs.Inside.Seen.{most_counted}
 use Rattle.m88_pager.proofs.frames.Frames.carry_all.Goals as goal
@@ -17,7 +18,8 @@ pub loop-triple-init : goal.loop-triple-init
 loop-triple-init g c = record {
   carried = none_on (image_bytes c.args.image.now) c.args.self.now (g.P.PageStore.pages c.args.store.now);
   tells = refl;
-  grows = omega arith;
+  clean = refl;
+  written = refl;
 }
 
 pub carry_out-requires-clause-within : goal.carry_out-requires-clause-within
@@ -40,8 +42,6 @@ pub loop-triple-preserved : goal.loop-triple-preserved
 loop-triple-preserved g c =
     let inv = c.loop-triple.invariant in
     let k = c.loop-triple.triple-index in
-    let before = inv.grows in
-    let more = c.carry_out.ensures.store.grows in
     record {
       carried =
           subst (λ (xs : List Access). AreCarriedOn (image_bytes c.args.image.now) xs c.args.self.now c.carry_out.new.self
@@ -49,7 +49,8 @@ loop-triple-preserved g c =
           (one_mapped c.args.words.now k _ c.access_in.result c.loop-triple-test.true c.access_in.ensures)
           (on_and_on (map access_in (take k c.args.words.now)) (c.access_in.result ∷ []) inv.carried c.in_ok-carry_out.ensures.carried);
       tells = c.carry_out.ensures.store.tells ∙ inv.tells;
-      grows = omega (arith, before, more);
+      clean = c.in_ok-carry_out.ensures.store.clean ∙ inv.clean;
+      written = then_put _ _ _ _ _ _ inv.written c.in_ok-carry_out.ensures.written;
     }
 
 pub returns-clause-carried : goal.returns-clause-carried

@@ -2,6 +2,7 @@
 use Rattle.std.specs.Prelude.{ℕ, Bool, List, All, ◌≡◌, ◌+◌, ◌-◌, length, map, slice_get, take}
 use Rattle.std.proofs.Common.{arith, length-take, sym, ap, subst, ◌∙◌}
 use Rattle.m88_pager.proofs.Counts.{same_length}
+use Rattle.m88_pager.proofs.Written.{then_put}
 use Rattle.m88_pager.proofs.Flushing.{at_most_one, dirty_left, none_dirty, none_left, whole_front}
 use Rattle.m88_pager.specs.Frames.{Frames as FramesSeen, dirty_count, one_if_dirty}
 use Rattle.m88_pager.specs.Inside.Seen.{IsWhole, marked}
@@ -31,8 +32,6 @@ loop-self-preserved g c =
     let taken = length-take (length f.cache.entries - 1) f.cache.entries in
     let few = inv.few in
     let so_far = inv.outs in
-    let before = inv.grows in
-    let more = c.leave.ensures.store.grows in
     record {
       whole = subst (All IsWhole) (sym left) (whole_front (length f.cache.entries - 1) f.cache.entries inv.whole);
       ins = ins ∙ inv.ins;
@@ -40,7 +39,8 @@ loop-self-preserved g c =
       outs = omega (arith, so_far, outs, dirty, sum);
       stands = λ original memory written s. went.stands original memory written (inv.stands original memory written s);
       tells = c.leave.ensures.store.tells ∙ inv.tells;
-      grows = omega (arith, before, more);
+      clean = c.in_ok-leave.ensures.store.clean ∙ inv.clean;
+      written = then_put _ _ _ _ _ _ inv.written c.in_ok-leave.ensures.written;
     }
 
 pub returns-clause-flushed : goal.returns-clause-flushed

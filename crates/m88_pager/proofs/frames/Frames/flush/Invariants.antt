@@ -1,6 +1,7 @@
 -- The pages that are left, and those that went out.
-use Rattle.std.proofs.Common.{ℕ, List, All, ◌≡◌, ◌≤◌, ◌<◌, ◌+◌, ◌^◌, is_some, length, map}
+use Rattle.std.proofs.Common.{ℕ, List, All, ◌≡◌, ◌<◌, ◌+◌, ◌^◌, is_some, length, map}
 use Rattle.m88_pager.specs.Frames.{dirty_count}
+use Rattle.m88_pager.specs.Inside.Calls.{PutsOut}
 use Rattle.m88_pager.specs.Inside.Seen.{IsWhole, StillStands, held_by, marked}
 use Rattle.m88_pager.proofs.frames.Frames.flush.Given as goal
 
@@ -14,7 +15,8 @@ invariant-loop-self g l = record {
   stands : (original : ℕ → List ℕ) → StillStands original (held_by l.initial.self) l.initial.self.cache.entries
       (g.P.PageStore.pages l.initial.store) (held_by l.self) l.self.cache.entries (g.P.PageStore.pages l.store);
   tells : is_some (g.P.PageStore.pages l.store) ≡ is_some (g.P.PageStore.pages l.initial.store);
-  grows : g.P.PageStore.faults l.initial.store ≤ g.P.PageStore.faults l.store;
+  clean : g.P.PageStore.faults l.store ≡ g.P.PageStore.faults l.initial.store;
+  written : PutsOut l.initial.self.outs l.self.outs (g.P.PageStore.writes l.initial.store) (g.P.PageStore.writes l.store);
 }
 
 abbrev pub decreases-loop-self : goal.decreases-loop-self

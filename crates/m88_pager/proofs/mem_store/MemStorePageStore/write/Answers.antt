@@ -13,7 +13,10 @@ returns-in-Ok-insert-clause-written c = record {
       ∙ ap₂ (λ (held : PageMap) (bytes : List ℕ). insert held c.args.page bytes)
       (ap (λ (s : MemoryPages). s.held) c.self.view_is ∙ c.in_ok-count.ensures.held)
       c.in-Ok.ensures.items);
+  counted = search rules;
   same = tt;
+  uncounted = tt;
+  clean = search rules;
   grows =
       let more = c.in_ok-count.ensures.counts.grows in
       let same = ap (λ (s : MemoryPages). s.faults) c.self.view_is in
