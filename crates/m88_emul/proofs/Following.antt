@@ -25,7 +25,7 @@ use Rattle.m88_emul.proofs.Mending.{bus_answered, bus_finished, bus_mended, bus_
 use Rattle.m88_emul.specs.Aid.{Aid, with_all}
 use Rattle.m88_emul.specs.Extended.{Deed, aided, alone, bus_after_work, deed_at, deed_of, extended_bus, extended_state, mends, transacted, transactions_before, transacts, work_before}
 use Rattle.m88_emul.specs.Inside.Settled.{IsAlone, Stands, deed_seen, emulated_by, newly_emulated, settled, settled_by}
-use Rattle.m88_emul.specs.Timeline.{ExtendedMoment, after_chosen, after_event, after_stop, extended_end, has_place_in, last_retired, seen_at}
+use Rattle.m88_emul.specs.Timeline.{ExtendedMoment, after_chosen, after_event, after_stop, extended_end, extended_pending, has_place_in, last_retired, seen_at}
 use Rattle.m88_emul.specs.declared.emulation.Emulation.{Emulation}
 
 -- a choice is one that a moment may come to
@@ -299,14 +299,15 @@ by_choice p named x replies fault is stands fit =
     })
 by_choice p named x faults fault is stands fit =
     let m : Moment = x.moment in
-    let bus = bus_finished m.done (work_before p m.retired) (in_words (opening p).memory) stands.mended stands.within in
-    let pending = sym (drop_all (length (transactions_before p m.retired)) (transactions_before p m.retired) (omega arith)) in
     let rest = length-drop m.done (transactions_before p m.retired) in
     let within = stands.within in
-    let done : m.done + length (drop m.done (transactions_before p m.retired)) ≡ length (transactions_before p m.retired) = omega (arith, rest, within) in
-    let absent : (λ page. absent_at named m page && not (touches_page (drop m.done (transactions_before p m.retired)) page))
-    ≡ (λ page. (if m.evicted then every_page page else named page) && not (m.supplied page || touches_page (drop m.done (transactions_before p m.retired)) page)) =
-    fun_ext (λ page. supplied_more (if m.evicted then every_page page else named page) (m.supplied page) (touches_page (drop m.done (transactions_before p m.retired)) page)) in
+    let done : m.done + length (extended_pending p m) ≡ length (transactions_before p m.retired) = omega (arith, rest, within) in
+    let bus = bus_finished m.done (work_before p m.retired) (in_words (opening p).memory) stands.mended stands.within
+    ∙ ap (λ k. extended_bus p m.retired k) (sym done) in
+    let pending = sym (drop_all (m.done + length (extended_pending p m)) (transactions_before p m.retired) (omega (arith, done))) in
+    let absent : (λ page. absent_at named m page && not (touches_page (extended_pending p m) page))
+    ≡ (λ page. (if m.evicted then every_page page else named page) && not (m.supplied page || touches_page (extended_pending p m) page)) =
+    fun_ext (λ page. supplied_more (if m.evicted then every_page page else named page) (m.supplied page) (touches_page (extended_pending p m) page)) in
     left p named m _ is (no_aid m.ended _ _ stands.ended)
     ∙ (λ i. record {
       completed = completed_state (extended_state p m.retired);
@@ -317,7 +318,7 @@ by_choice p named x faults fault is stands fit =
       ended = extended_end p m;
       absent = absent i;
       retired = m.retired;
-      done = done i;
+      done = m.done + length (extended_pending p m);
       events = m.events;
       answers = m.answers;
       records = m.records ++ (fault ∷ []);

@@ -17,7 +17,7 @@ use Rattle.m88_emul.proofs.Following.{Fits, aided_work, deed_goes, fits, more_wo
 use Rattle.m88_emul.proofs.Mending.{made_mended, made_more, mended_again, mended_more, mended_on}
 use Rattle.m88_emul.specs.Extended.{Deed, aided, alone, deed_at, extended_state, transacted, transactions_before, work_before}
 use Rattle.m88_emul.specs.Inside.Settled.{IsAlone, IsMended, Stands}
-use Rattle.m88_emul.specs.Timeline.{ExtendedMoment, after_chosen, after_event, after_stop, seen_at}
+use Rattle.m88_emul.specs.Timeline.{ExtendedMoment, after_chosen, after_event, after_stop, extended_pending, seen_at}
 
 -- one more step that the machine makes alone
 stands_alone : (p : Program) (m : Moment) (t : Turn) (bubble : Bool) → Stands p m → deed_at p (extended_state p m.retired) ≡ alone t → m.ended ≡ false →
@@ -77,11 +77,15 @@ stands_choice p x replies fault stands fit last = record {
   ended = stands.ended;
 }
 stands_choice p x evicts fault stands fit last = record { within = stands.within; mended = stands.mended; ended = stands.ended }
-stands_choice p x faults fault stands fit last = record {
-  within = omega arith;
-  mended = mended_on x.moment.done (length (transactions_before p x.moment.retired)) (work_before p x.moment.retired) stands.within stands.mended;
-  ended = stands.ended;
-}
+stands_choice p x faults fault stands fit last =
+    let m : Moment = x.moment in
+    let rest = length-drop m.done (transactions_before p m.retired) in
+    let within = stands.within in
+    record {
+      within = omega (arith, rest, within);
+      mended = mended_on m.done (m.done + length (extended_pending p m)) (work_before p m.retired) (omega arith) stands.mended;
+      ended = stands.ended;
+    }
 
 pub stands_on : (p : Program) (named : ℕ → Bool) (limit : ℕ) (letter : Letter) (x : ExtendedMoment) → Stands p x.moment →
     Stands p (after_event p named limit letter x).moment

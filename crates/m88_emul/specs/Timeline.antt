@@ -8,12 +8,13 @@ use Rattle.m88_base.specs.declared.slot.Slot.{Slot}
 use Rattle.m88_isa.specs.Bus.{changed_words, in_words}
 use Rattle.m88_isa.specs.History.{completed_state}
 use Rattle.m88_isa.specs.Machine.{Program, opening, turn, turn_at}
-use Rattle.m88_event.specs.Choice.{Choice, evicts, faults, finishes, holds, idles, issues, passes, replies, serves, touches_page}
+use Rattle.m88_isa.specs.declared.planned.Access.{Access}
+use Rattle.m88_event.specs.Choice.{Choice, finishes}
 use Rattle.m88_event.specs.Letters.{letter_at}
 use Rattle.m88_event.specs.Local.{Local, choice_by, record_by}
 use Rattle.m88_event.specs.Run.{IsFirst}
 use Rattle.m88_event.specs.Shadow.{retired_pointer}
-use Rattle.m88_event.specs.Timeline.{Moment, absent_at, end_of_turn, is_idle, opening_moment, with_event}
+use Rattle.m88_event.specs.Timeline.{Moment, absent_at, after_choice, end_of_turn, is_idle, opening_moment, with_event}
 use Rattle.m88_event.specs.declared.happened.End.{End}
 use Rattle.m88_event.specs.declared.happened.End.TheVariants.{Limit}
 use Rattle.m88_event.specs.declared.letter.Letter.{Letter}
@@ -31,6 +32,10 @@ pub record ExtendedMoment : Type 0 where
 abbrev pub opening_extended : ExtendedMoment
 opening_extended = record { moment = opening_moment; emulated = [] }
 
+-- the transactions that aren't done
+abbrev pub extended_pending : Program → Moment → List Access
+extended_pending p m = drop m.done (transactions_before p m.retired)
+
 -- the instruction retired last, by the machine or by software
 unfoldable pub last_retired : Program → ℕ → Slot
 last_retired p zero = no_slot
@@ -46,7 +51,7 @@ unfoldable pub seen_at : Program → (ℕ → Bool) → Moment → Local
 seen_at p named m = record {
   completed = completed_state (extended_state p m.retired);
   bus = extended_bus p m.retired m.done;
-  pending = drop m.done (transactions_before p m.retired);
+  pending = extended_pending p m;
   xip = last_retired p m.retired;
   bubble = m.bubble;
   ended = extended_end p m;
@@ -77,33 +82,13 @@ after_stop (aided vector aid) p x = record {
       ++ (record { event = x.moment.events + 1; at = (extended_state p x.moment.retired).pc; vector = vector } ∷ []);
 }
 
--- what a choice makes of a moment, but for the count of events; a data fault leaves its record, supplies the pages of
--- all pending transactions and finishes these
+-- what a choice makes of a moment, but for the count of events: the same as without software, but where it would end
+-- the program
 abbrev pub after_chosen : Program → Choice → Record → ExtendedMoment → ExtendedMoment
-after_chosen p idles fault x = x
-after_chosen p passes fault x = record x { moment = record x.moment { bubble = false } }
-after_chosen p (holds why) fault x = x
-after_chosen p (issues change) fault x =
-    record x { moment = record x.moment { retired = x.moment.retired + 1; bubble = change.bubble } }
-after_chosen p (serves byte) fault x =
-    record x { moment = record x.moment { retired = x.moment.retired + 1; bubble = false } }
 after_chosen p (finishes stop) fault x =
     after_stop (deed_at p (extended_state p x.moment.retired)) p x
-after_chosen p replies fault x =
-    record x {
-      moment = record x.moment { done = x.moment.done + 1; answers = x.moment.answers + 1 };
-    }
-after_chosen p faults fault x = record x {
-  moment = record x.moment {
-    records = x.moment.records ++ (fault ∷ []);
-    supplied =
-        λ page. x.moment.supplied page
-        || touches_page (drop x.moment.done (transactions_before p x.moment.retired)) page;
-    done = length (transactions_before p x.moment.retired);
-  };
-}
-after_chosen p evicts fault x =
-    record x { moment = record x.moment { evicted = true; supplied = λ page. false } }
+after_chosen p choice fault x =
+    record x { moment = after_choice (extended_pending p x.moment) choice fault x.moment }
 
 -- one more event is counted
 abbrev pub with_event_counted : ExtendedMoment → ExtendedMoment
