@@ -23,8 +23,8 @@ use Rattle.m88_event.specs.declared.record.Record.{Record}
 use Rattle.m88_emul.proofs.InWords.{IsSingle, byte_is, single_deed, state_bytes, stores_agree}
 use Rattle.m88_emul.proofs.Mending.{bus_answered, bus_finished, bus_mended, bus_more, made_mended, made_more}
 use Rattle.m88_emul.specs.Aid.{Aid, with_all}
-use Rattle.m88_emul.specs.Extended.{Deed, aided, alone, bus_after_work, deed_at, deed_of, extended_bus, extended_state, mends, transacted, transactions_before, transacts, work_before}
-use Rattle.m88_emul.specs.Inside.Settled.{IsAlone, Stands, deed_seen, emulated_by, newly_emulated, settled, settled_by}
+use Rattle.m88_emul.specs.Extended.{Deed, IsAlone, aided, alone, bus_after_work, deed_at, deed_of, extended_bus, extended_state, mends, transacted, transactions_before, transacts, work_before}
+use Rattle.m88_emul.specs.Inside.Settled.{Stands, deed_seen, emulated_by, newly_emulated, settled, settled_by}
 use Rattle.m88_emul.specs.Timeline.{ExtendedMoment, after_chosen, after_event, after_stop, extended_end, extended_pending, has_place_in, last_retired, seen_at}
 use Rattle.m88_emul.specs.declared.emulation.Emulation.{Emulation}
 

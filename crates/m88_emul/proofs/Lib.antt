@@ -9,6 +9,7 @@ pub mod Following
 pub mod Standing
 pub mod Weighing
 pub mod Walks
+pub mod Unaided
 -- the pages of bytes
 pub mod PageEnds
 pub mod OpenPlaces

@@ -43,9 +43,9 @@ use Rattle.m88_emul.proofs.Following.{NoAid, none_new, stays}
 use Rattle.m88_emul.proofs.Weighing.{still_lives}
 use Rattle.m88_emul.specs.Aid.{Aid, aid_of, with_all}
 use Rattle.m88_emul.specs.Emulating.{IsAided}
-use Rattle.m88_emul.specs.Extended.{Deed, aid_at, aided, byte_seen, deed_of, where_aided}
+use Rattle.m88_emul.specs.Extended.{Deed, IsAlone, aid_at, aided, byte_seen, deed_of, where_aided}
 use Rattle.m88_emul.specs.Inside.Boards.{KeepsRun, one_more, vector_in}
-use Rattle.m88_emul.specs.Inside.Settled.{IsAlone, completed_by, deed_seen, emulated_by, newly_emulated, settled, settled_by}
+use Rattle.m88_emul.specs.Inside.Settled.{completed_by, deed_seen, emulated_by, newly_emulated, settled, settled_by}
 use Rattle.m88_emul.specs.Inside.Tasks.{aid_by}
 use Rattle.m88_emul.specs.Timeline.{has_place_in}
 use Rattle.m88_emul.specs.declared.task.Task.{Task}

@@ -15,8 +15,8 @@ use Rattle.m88_event.specs.declared.letter.Letter.{Letter}
 use Rattle.m88_event.specs.declared.record.Record.{Record}
 use Rattle.m88_emul.proofs.Following.{Fits, aided_work, deed_goes, fits, more_work}
 use Rattle.m88_emul.proofs.Mending.{made_mended, made_more, mended_again, mended_more, mended_on}
-use Rattle.m88_emul.specs.Extended.{Deed, aided, alone, deed_at, extended_state, transacted, transactions_before, work_before}
-use Rattle.m88_emul.specs.Inside.Settled.{IsAlone, IsMended, Stands}
+use Rattle.m88_emul.specs.Extended.{Deed, IsAlone, aided, alone, deed_at, extended_state, transacted, transactions_before, work_before}
+use Rattle.m88_emul.specs.Inside.Settled.{IsMended, Stands}
 use Rattle.m88_emul.specs.Timeline.{ExtendedMoment, after_chosen, after_event, after_stop, extended_pending, seen_at}
 
 -- one more step that the machine makes alone

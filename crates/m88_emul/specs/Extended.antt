@@ -18,6 +18,11 @@ pub data Deed : Type 0 where
   alone : Turn → Deed
   aided : ℕ → Aid → Deed
 
+-- the machine alone has its turn
+abbrev pub IsAlone : Deed → Type 0
+IsAlone (alone turn) = Unit {0}
+IsAlone (aided vector aid) = ⊥
+
 -- the aid for an instruction, if it could be read
 abbrev pub aid_at : Option Instr → ℕ → List ℕ → (ℕ → ℕ) → Option Aid
 aid_at None vector regs memory = None

@@ -14,6 +14,7 @@ ghost use Rattle.m88_board.specs.Kept.{most_events, most_retired};
 ghost use Rattle.m88_emul.specs.Aid.{aid_of};
 ghost use Rattle.m88_emul.specs.Inside.Boards.{GoesOnBehind, HasAdvanced, IsSettledBySoftware, one_more, vector_in};
 ghost use Rattle.m88_emul.specs.Timeline.{IsExtendedOutcome};
+ghost use Rattle.m88_emul.specs.Unaided.{IsPlainUnaided};
 ghost use Rattle.m88_emul.specs.declared.emulation.EmulOutcome.{EmulOutcome as EmulOutcomeValue};
 
 use crate::emulation::{EmulOutcome, Emulation};
@@ -42,6 +43,9 @@ pub fn run(
         → IsExtendedOutcome p named limit schedule.now o
         → IsExtendedOutcome p named limit schedule.now other
         → o ≡ other }
+    ensures plain { (p : Program) (named : ℕ → Bool) (o : EmulOutcomeValue)
+        → IsExtendedOutcome p named limit schedule.now o
+        → IsPlainUnaided p named limit schedule.now o }
     ensures within { IfOk result (λ o. o.outcome.events ≤ length schedule.now + 8 * limit + 8) }
 {
     let mut board = Board::new(alloc, image, absent, limit, false)?;

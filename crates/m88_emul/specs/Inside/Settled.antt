@@ -11,7 +11,7 @@ use Rattle.m88_event.specs.Shadow.{retired_pointer}
 use Rattle.m88_event.specs.Timeline.{Moment}
 use Rattle.m88_event.specs.declared.happened.End.{End}
 use Rattle.m88_emul.specs.Aid.{Aid, with_all}
-use Rattle.m88_emul.specs.Extended.{Deed, Work, aided, alone, byte_seen, deed_at, deed_of, extended_state, mends, transactions_before, transacts, work_before}
+use Rattle.m88_emul.specs.Extended.{Deed, IsAlone, Work, aided, alone, byte_seen, deed_at, deed_of, extended_state, mends, transactions_before, transacts, work_before}
 use Rattle.m88_emul.specs.Timeline.{has_place_in}
 use Rattle.m88_emul.specs.declared.emulation.Emulation.{Emulation}
 
@@ -57,11 +57,6 @@ emulated_by (Some end) (aided vector aid) l =
 -- that of a board after an event
 unfoldable pub newly_emulated : Program → Local → List Emulation
 newly_emulated p l = emulated_by l.ended (deed_seen p l) l
-
--- the machine alone has its turn
-abbrev pub IsAlone : Deed → Type 0
-IsAlone (alone turn) = Unit {0}
-IsAlone (aided vector aid) = ⊥
 
 -- software stored nothing
 unfoldable pub HasNoMending : List Work → Type 0

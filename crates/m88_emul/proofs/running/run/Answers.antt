@@ -13,6 +13,7 @@ use Rattle.m88_mem.specs.Marks.{absent_in}
 use Rattle.m88_board.specs.Board.{local_of}
 use Rattle.m88_event.specs.declared.outcome.Outcome.{Outcome}
 use Rattle.m88_emul.proofs.OnBoards.{came_to, over_empty}
+use Rattle.m88_emul.proofs.Unaided.{plain_unaided}
 use Rattle.m88_emul.proofs.Weighing.{lighter}
 use Rattle.m88_emul.proofs.Walks.{IsThere, one_outcome, opens_empty, there_first, there_next, there_over}
 use Rattle.m88_emul.specs.Inside.Settled.{newly_emulated, settled}
@@ -135,6 +136,9 @@ loop-alloc-preserved-in-Some c =
 
 pub returns-clause-only : goal.returns-clause-only
 returns-clause-only c = λ p named o other. one_outcome p named c.args.limit c.args.schedule.now o other
+
+pub returns-clause-plain : goal.returns-clause-plain
+returns-clause-plain c = λ p named o. plain_unaided p named c.args.limit c.args.schedule.now o
 
 pub returns-clause-outcome : goal.returns-clause-outcome
 returns-clause-outcome c = λ p of clear.

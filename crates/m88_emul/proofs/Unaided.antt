@@ -1,0 +1,388 @@
+-- A machine with software behind it is the board alone where software has nothing to do.
+use Rattle.std.specs.Prelude.{ℕ, zero, suc, Bool, true, false, List, [], ◌∷◌, ◌++◌, Option, Some, None, ◌≡◌, ◌≤◌, ◌+◌, ◌==◌, ◌&&◌, ◌||◌, ◌-◌, drop, length, map, nat_lt, take, unwrap_or, if◌then◌else◌}
+use Rattle.std.proofs.Common.{arith, refl, sym, ap, ap₂, subst, ◌∙◌}
+use Rattle.std.proofs.lemmas.Bool.{eqb-false, eqb-true, ltb-false, ltb-true}
+use Rattle.m88_isa.proofs.Laws.{by_test}
+use Rattle.m88_isa.specs.Bus.{bus_after, bus_after_all, changed_words, in_words}
+use Rattle.m88_isa.specs.Held.{instruction_at, is_stop}
+use Rattle.m88_isa.specs.History.{completed_state, pending_at, transaction_count, transactions, turn_accesses}
+use Rattle.m88_isa.specs.Machine.{Program, State, Turn, by_vector, changes, exits, opening, outputs, state, state_after, stepped, stops, turn_at}
+use Rattle.m88_isa.specs.declared.instr.Instr.{Instr}
+use Rattle.m88_isa.specs.declared.planned.Access.{Access}
+use Rattle.m88_event.proofs.Laws.{Fits, fits, past_after, same_situation}
+use Rattle.m88_event.specs.Choice.{Choice, choice_of, finishes, issues, serves}
+use Rattle.m88_event.specs.Letters.{letter_at}
+use Rattle.m88_event.specs.Local.{local_at, situation_of}
+use Rattle.m88_event.specs.Past.{HasPast}
+use Rattle.m88_event.specs.Run.{IsOutcome, moment_after, moment_along, outcome_at}
+use Rattle.m88_event.specs.Shadow.{retired_pointer}
+use Rattle.m88_event.specs.Situation.{Situation, record_of}
+use Rattle.m88_event.specs.Timeline.{Moment, after_choice, after_letter, absent_at, end_of_turn, is_over, situation_at, with_event, xip_at}
+use Rattle.m88_event.specs.declared.happened.End.TheVariants.{Limit}
+use Rattle.m88_event.specs.declared.letter.Letter.{Letter}
+use Rattle.m88_event.specs.declared.record.Record.{Record}
+use Rattle.m88_emul.proofs.Standing.{stands_first, stands_on}
+use Rattle.m88_emul.specs.Aid.{Aid}
+use Rattle.m88_emul.specs.Extended.{Deed, IsAlone, Work, after_deed, aid_at, aided, alone, bus_after_work, deed_at, deed_of, extended_state, transacted, transactions_before, transacts, where_aided, work_before, work_of}
+use Rattle.m88_emul.specs.Inside.Settled.{Stands}
+use Rattle.m88_emul.specs.Timeline.{ExtendedMoment, IsExtendedOutcome, after_chosen, after_event, after_stop, extended_after, extended_outcome, is_extended_over, last_retired, seen_at, with_event_counted}
+use Rattle.m88_emul.specs.Unaided.{IsPlainUnaided, IsUnaided}
+use Rattle.m88_emul.specs.declared.emulation.EmulOutcome.{EmulOutcome}
+use Rattle.m88_emul.specs.declared.emulation.Emulation.{Emulation}
+
+-- a deed without an aid is the turn
+no_aid : (vector at : ℕ) (aid : Option Aid) → IsAlone (where_aided vector at aid) → where_aided vector at aid ≡ alone (stops (by_vector vector at))
+no_aid vector at None h = refl
+no_aid vector at (Some aid) h = absurd h
+
+own_turn : (t : Turn) (i : Option Instr) (regs : List ℕ) (memory : ℕ → ℕ) → IsAlone (deed_of t i regs memory) → deed_of t i regs memory ≡ alone t
+own_turn (changes change) i regs memory h = refl
+own_turn (outputs byte) i regs memory h = refl
+own_turn (stops (exits at)) i regs memory h = refl
+own_turn (stops (by_vector vector at)) i regs memory h = no_aid vector at (aid_at i vector regs memory) h
+
+turn_alone : (p : Program) (s : State) → IsAlone (deed_at p s) → deed_at p s ≡ alone (turn_at p s)
+turn_alone p s h = own_turn (turn_at p s) (instruction_at p s.pc) s.regs s.memory h
+
+fewer_unaided : (p : Program) (m n : ℕ) → m ≤ n → IsUnaided p n → IsUnaided p m
+fewer_unaided p m n h none = λ k less. none k (omega (arith, h, less))
+
+-- so the histories are one
+same_state : (p : Program) (n : ℕ) → IsUnaided p n → extended_state p n ≡ state p n
+unfolding extended_state state
+same_state p zero none = refl
+same_state p (suc n) none =
+    ap (λ (s : State). after_deed (deed_at p s) s) (same_state p n (fewer_unaided p n (suc n) (omega arith) none))
+    ∙ ap (λ (d : Deed). after_deed d (state p n)) (turn_alone p (state p n) (none n (omega arith)))
+
+same_deed : (p : Program) (n : ℕ) → IsUnaided p n → deed_at p (extended_state p n) ≡ deed_at p (state p n)
+same_deed p n none = ap (deed_at p) (same_state p n none)
+
+-- and so are their transactions
+transacts_all : (xs ys : List Access) → map transacts xs ++ map transacts ys ≡ map transacts (xs ++ ys)
+transacts_all [] ys = refl
+transacts_all (x ∷ xs) ys = ap (λ (works : List Work). transacts x ∷ works) (transacts_all xs ys)
+
+same_work : (p : Program) (n : ℕ) → IsUnaided p n → work_before p n ≡ map transacts (transactions p n)
+unfolding work_before transactions
+same_work p zero none = refl
+same_work p (suc n) none =
+    let before = fewer_unaided p n (suc n) (omega arith) none in
+    ap₂ (λ (works : List Work) (d : Deed). works ++ work_of d) (same_work p n before)
+    (same_deed p n before ∙ turn_alone p (state p n) (none n (omega arith)))
+    ∙ transacts_all (transactions p n) (turn_accesses (turn_at p (state p n)))
+
+all_transacted : (xs : List Access) → transacted (map transacts xs) ≡ xs
+unfolding transacted
+all_transacted [] = refl
+all_transacted (x ∷ xs) = ap (λ (ys : List Access). x ∷ ys) (all_transacted xs)
+
+same_transactions : (p : Program) (n : ℕ) → IsUnaided p n → transactions_before p n ≡ transactions p n
+same_transactions p n none = ap transacted (same_work p n none) ∙ all_transacted (transactions p n)
+
+bus_of_work : (done : ℕ) (xs : List Access) (bus : ℕ → ℕ) → bus_after_work done (map transacts xs) bus ≡ bus_after_all (take done xs) bus
+unfolding bus_after_work bus_after_all
+bus_of_work zero [] bus = refl
+bus_of_work (suc done) [] bus = refl
+bus_of_work zero (x ∷ xs) bus = bus_of_work zero xs bus
+bus_of_work (suc done) (x ∷ xs) bus = bus_of_work done xs (bus_after x bus)
+
+same_xip : (p : Program) (n : ℕ) → IsUnaided p n → last_retired p n ≡ xip_at p n
+unfolding last_retired xip_at
+same_xip p zero none = refl
+same_xip p (suc n) none =
+    ap (λ (s : State). retired_pointer s.pc) (same_state p n (fewer_unaided p n (suc n) (omega arith) none))
+
+-- what is seen of a moment
+same_seen : (p : Program) (named : ℕ → Bool) (m : Moment) → IsUnaided p m.retired → seen_at p named m ≡ local_at p named m
+unfolding seen_at local_at
+same_seen p named m none =
+    let states = same_state p m.retired none in
+    let bus = ap (λ (works : List Work). bus_after_work m.done works (in_words (opening p).memory)) (same_work p m.retired none)
+    ∙ bus_of_work m.done (transactions p m.retired) (in_words (opening p).memory) in
+    let made = same_transactions p m.retired none in
+    let xip = same_xip p m.retired none in
+    λ i. record {
+      completed = completed_state (states i);
+      bus = bus i;
+      pending = drop m.done (made i);
+      xip = xip i;
+      bubble = m.bubble;
+      ended = if m.ended then Some (end_of_turn (turn_at p (states i))) else None;
+      absent = absent_at named m;
+      retired = m.retired;
+      done = m.done;
+      events = m.events;
+      answers = m.answers;
+      records = m.records;
+    }
+
+-- a moment with no emulation
+abbrev plain : Moment → ExtendedMoment
+plain m = record { moment = m; emulated = [] }
+
+-- the choice ends the program
+abbrev Ends : Choice → Type 0
+Ends (finishes stop) = Unit {0}
+Ends _ = ⊥
+
+-- what a choice makes of it
+ended_plain : (p : Program) (m : Moment) (d : Deed) → IsAlone d → after_stop d p (plain m) ≡ plain (record m { ended = true })
+ended_plain p m (alone t) h = refl
+ended_plain p m (aided vector aid) h = absurd h
+
+plain_choice : (p : Program) (m : Moment) (choice : Choice) (fault : Record) → IsUnaided p m.retired →
+    (Ends choice → IsAlone (deed_at p (state p m.retired))) →
+    after_chosen p choice fault (plain m) ≡ plain (after_choice (pending_at p m.retired m.done) choice fault m)
+plain_choice p m (finishes stop) fault none ends =
+    ended_plain p m (deed_at p (extended_state p m.retired)) (subst IsAlone (sym (same_deed p m.retired none)) (ends tt))
+plain_choice p m choice fault none ends =
+    ap (λ (xs : List Access). plain (after_choice (drop m.done xs) choice fault m)) (same_transactions p m.retired none)
+
+-- and a letter
+abbrev choice_there : Program → (ℕ → Bool) → ℕ → Letter → Moment → Choice
+choice_there p named limit letter m = choice_of p letter (situation_at p named limit m)
+
+plain_letter : (p : Program) (named : ℕ → Bool) (limit : ℕ) (letter : Letter) (m : Moment) → IsUnaided p m.retired →
+    (Ends (choice_there p named limit letter m) → IsAlone (deed_at p (state p m.retired))) →
+    after_event p named limit letter (plain m) ≡ plain (after_letter p named limit letter m)
+unfolding after_event after_letter
+plain_letter p named limit letter m none ends =
+    ap (λ (s : Situation). with_event_counted (after_chosen p (choice_of p letter s) (record_of p s) (plain m)))
+    (ap (situation_of limit) (same_seen p named m none) ∙ same_situation p named limit m)
+    ∙ ap with_event_counted (plain_choice p m (choice_there p named limit letter m) (record_of p (situation_at p named limit m)) none ends)
+
+-- where software has no aid up to the limit, a program that ends does so before the limit
+ends_early : (p : Program) (limit : ℕ) (m : Moment) (choice : Choice) (fault : Record) → IsUnaided p limit →
+    HasPast p limit (with_event (after_choice (pending_at p m.retired m.done) choice fault m)) → Ends choice → IsAlone (deed_at p (state p m.retired))
+ends_early p limit m (finishes stop) fault none past ends = none m.retired (past.ended refl).early
+ends_early p limit m choice fault none past ends = absurd ends
+
+ends_there : (p : Program) (named : ℕ → Bool) (limit : ℕ) (schedule : List Letter) (k : ℕ) → IsUnaided p limit →
+    Ends (choice_there p named limit (letter_at schedule k) (moment_after p named limit schedule k)) →
+    IsAlone (deed_at p (state p (moment_after p named limit schedule k).retired))
+unfolding moment_along after_letter
+ends_there p named limit schedule k none =
+    let m : Moment = moment_after p named limit schedule k in
+    let s : Situation = situation_at p named limit m in
+    ends_early p limit m (choice_of p (letter_at schedule k) s) (record_of p s) none (past_after p named limit schedule (suc k))
+
+plain_moments : (p : Program) (named : ℕ → Bool) (limit : ℕ) (schedule : List Letter) → IsUnaided p limit → (k : ℕ) →
+    extended_after p named limit schedule k ≡ plain (moment_after p named limit schedule k)
+unfolding extended_after moment_along
+plain_moments p named limit schedule none zero = refl
+plain_moments p named limit schedule none (suc k) =
+    let m : Moment = moment_after p named limit schedule k in
+    let within = (past_after p named limit schedule k).within in
+    ap (after_event p named limit (letter_at schedule k)) (plain_moments p named limit schedule none k)
+    ∙ plain_letter p named limit (letter_at schedule k) m (fewer_unaided p m.retired limit within none)
+    (ends_there p named limit schedule k none)
+
+-- what the run comes to
+plain_outcome : (p : Program) (m : Moment) → IsUnaided p m.retired → extended_outcome p (plain m) ≡ record { outcome = outcome_at p m; emulated = [] }
+unfolding extended_outcome outcome_at
+plain_outcome p m none =
+    let states = same_state p m.retired none in
+    λ i. record {
+      outcome = record {
+        end = unwrap_or (if m.ended then Some (end_of_turn (turn_at p (states i))) else None) Limit;
+        retired = m.retired;
+        regs = (states i).regs;
+        carry = (states i).carry;
+        out = (states i).out;
+        changed = changed_words (in_words (opening p).memory) (in_words (states i).memory);
+        events = m.events;
+        answers = m.answers;
+        records = m.records;
+      };
+      emulated = [];
+    }
+
+over_plain : (p : Program) (limit : ℕ) (x : ExtendedMoment) (m : Moment) → x ≡ plain m → IsUnaided p m.retired →
+    is_extended_over p limit x.moment ≡ is_over p limit m
+over_plain p limit x m same none =
+    ap (λ (y : ExtendedMoment). is_extended_over p limit y.moment) same
+    ∙ ap (λ (xs : List Access). m.done == length xs && (m.ended || m.retired == limit)) (same_transactions p m.retired none)
+
+plain_run : (p : Program) (named : ℕ → Bool) (limit : ℕ) (schedule : List Letter) (o : EmulOutcome) → IsUnaided p limit →
+    (run : IsExtendedOutcome p named limit schedule o) →
+    o ≡ record { outcome = outcome_at p (moment_after p named limit schedule run.events); emulated = [] }
+plain_run p named limit schedule o none run =
+    let m : Moment = moment_after p named limit schedule run.events in
+    let within = (past_after p named limit schedule run.events).within in
+    run.value
+    ∙ ap (extended_outcome p) (plain_moments p named limit schedule none run.events)
+    ∙ plain_outcome p m (fewer_unaided p m.retired limit within none)
+
+plain_is : (p : Program) (named : ℕ → Bool) (limit : ℕ) (schedule : List Letter) (o : EmulOutcome) → IsUnaided p limit →
+    IsExtendedOutcome p named limit schedule o → IsOutcome p named limit schedule o.outcome
+plain_is p named limit schedule o none run = record {
+  events = run.events;
+  run = record {
+    here = sym (same_over run.events) ∙ run.run.here;
+    first = λ k less. sym (same_over k) ∙ run.run.first k less;
+  };
+  value = ap (λ (x : EmulOutcome). x.outcome) (plain_run p named limit schedule o none run);
+}
+  where
+    same_over : (k : ℕ) → is_extended_over p limit (extended_after p named limit schedule k).moment
+        ≡ is_over p limit (moment_after p named limit schedule k)
+    same_over k =
+        let m : Moment = moment_after p named limit schedule k in
+        let within = (past_after p named limit schedule k).within in
+        over_plain p limit (extended_after p named limit schedule k) m (plain_moments p named limit schedule none k)
+        (fewer_unaided p m.retired limit within none)
+
+-- where no emulation is listed, none was before
+not_one : (xs : List Emulation) (e : Emulation) → xs ++ (e ∷ []) ≡ [] → ⊥
+not_one [] e h = cc
+not_one (x ∷ xs) e h = cc
+
+none_by_stop : (p : Program) (x : ExtendedMoment) (d : Deed) → (after_stop d p x).emulated ≡ [] → x.emulated ≡ []
+none_by_stop p x (alone t) h = h
+none_by_stop p x (aided vector aid) h = absurd (not_one x.emulated _ h)
+
+none_before : (p : Program) (x : ExtendedMoment) (choice : Choice) (fault : Record) → (after_chosen p choice fault x).emulated ≡ [] →
+    x.emulated ≡ []
+none_before p x (finishes stop) fault h = none_by_stop p x (deed_at p (extended_state p x.moment.retired)) h
+none_before p x choice fault h = h
+
+none_earlier : (p : Program) (named : ℕ → Bool) (limit : ℕ) (letter : Letter) (x : ExtendedMoment) →
+    (after_event p named limit letter x).emulated ≡ [] → x.emulated ≡ []
+unfolding after_event
+none_earlier p named limit letter x h = none_before p x _ _ h
+
+-- then the machine alone ended the program, if it did
+alone_by_stop : (p : Program) (m : Moment) (d : Deed) → (after_stop d p (plain m)).emulated ≡ [] → IsAlone d
+alone_by_stop p m (alone t) h = tt
+alone_by_stop p m (aided vector aid) h = absurd (not_one [] _ h)
+
+ends_alone : (p : Program) (m : Moment) (choice : Choice) (fault : Record) → IsUnaided p m.retired →
+    (after_chosen p choice fault (plain m)).emulated ≡ [] → Ends choice → IsAlone (deed_at p (state p m.retired))
+ends_alone p m (finishes stop) fault none h ends =
+    subst IsAlone (same_deed p m.retired none) (alone_by_stop p m (deed_at p (extended_state p m.retired)) h)
+ends_alone p m choice fault none h ends = absurd ends
+
+letter_alone : (p : Program) (named : ℕ → Bool) (limit : ℕ) (letter : Letter) (m : Moment) → IsUnaided p m.retired →
+    (after_event p named limit letter (plain m)).emulated ≡ [] →
+    Ends (choice_there p named limit letter m) → IsAlone (deed_at p (state p m.retired))
+unfolding after_event
+letter_alone p named limit letter m none h =
+    let s : Situation = situation_at p named limit m in
+    ends_alone p m (choice_of p letter s) (record_of p s) none
+    (sym (ap (λ (s : Situation). (after_chosen p (choice_of p letter s) (record_of p s) (plain m)).emulated)
+    (ap (situation_of limit) (same_seen p named m none) ∙ same_situation p named limit m)) ∙ h)
+
+-- and each instruction that was retired
+one_unaided : (p : Program) (n : ℕ) → IsUnaided p n → IsAlone (deed_at p (state p n)) → IsUnaided p (n + 1)
+one_unaided p n none here = λ k less. by_test (k == n)
+    (λ last. subst (λ (j : ℕ). IsAlone (deed_at p (state p j))) (sym (eqb-true k n last)) here)
+    (λ earlier. let other = eqb-false k n earlier in none k (omega (arith, less, other)))
+
+turn_is_alone : (p : Program) (s : State) (t : Turn) → turn_at p s ≡ t → IsAlone (deed_of t (instruction_at p s.pc) s.regs s.memory) →
+    IsAlone (deed_at p s)
+turn_is_alone p s t e h = subst (λ (u : Turn). IsAlone (deed_of u (instruction_at p s.pc) s.regs s.memory)) (sym e) h
+
+retired_alone : (p : Program) (m : Moment) (choice : Choice) (fault : Record) → Fits p m choice → IsUnaided p m.retired →
+    IsUnaided p (after_choice (pending_at p m.retired m.done) choice fault m).retired
+retired_alone p m (issues change) fault fit none =
+    one_unaided p m.retired none (turn_is_alone p (state p m.retired) (changes change) fit.0 tt)
+retired_alone p m (serves byte) fault fit none =
+    one_unaided p m.retired none (turn_is_alone p (state p m.retired) (outputs byte) fit.0 tt)
+retired_alone p m choice fault fit none = none
+
+letter_retires : (p : Program) (named : ℕ → Bool) (limit : ℕ) (letter : Letter) (m : Moment) → IsUnaided p m.retired →
+    IsUnaided p (after_letter p named limit letter m).retired
+unfolding after_letter
+letter_retires p named limit letter m none =
+    let s : Situation = situation_at p named limit m in
+    retired_alone p m (choice_of p letter s) (record_of p s) (fits p named limit letter m) none
+
+-- so that the run was plain
+record IsPlainTo (p : Program) (named : ℕ → Bool) (limit : ℕ) (schedule : List Letter) (k : ℕ) : Type 0 where
+  pub none : IsUnaided p (moment_after p named limit schedule k).retired
+  pub same : extended_after p named limit schedule k ≡ plain (moment_after p named limit schedule k)
+
+plain_to : (p : Program) (named : ℕ → Bool) (limit : ℕ) (schedule : List Letter) (k : ℕ) →
+    (extended_after p named limit schedule k).emulated ≡ [] → IsPlainTo p named limit schedule k
+unfolding extended_after moment_along
+plain_to p named limit schedule zero h = record { none = λ k less. absurd (omega (arith, less)); same = refl }
+plain_to p named limit schedule (suc k) h =
+    let letter : Letter = letter_at schedule k in
+    let x : ExtendedMoment = extended_after p named limit schedule k in
+    let m : Moment = moment_after p named limit schedule k in
+    let before = plain_to p named limit schedule k (none_earlier p named limit letter x h) in
+    let still = subst (λ (y : ExtendedMoment). (after_event p named limit letter y).emulated ≡ []) before.same h in
+    record {
+      none = letter_retires p named limit letter m before.none;
+      same =
+          ap (after_event p named limit letter) before.same
+          ∙ plain_letter p named limit letter m before.none (letter_alone p named limit letter m before.none still);
+    }
+
+-- from the end on nothing comes
+stop_stays : (t : Turn) (s : State) → is_stop t ≡ true → state_after (stepped t s) s ≡ s
+stop_stays (changes change) s h = absurd cc
+stop_stays (outputs byte) s h = absurd cc
+stop_stays (stops stop) s h = refl
+
+stays_ended : (p : Program) (n more : ℕ) → is_stop (turn_at p (state p n)) ≡ true → state p (n + more) ≡ state p n
+unfolding state
+stays_ended p n zero h = let e : n + 0 ≡ n = omega arith in ap (state p) e
+stays_ended p n (suc more) h =
+    let e : n + suc more ≡ suc (n + more) = omega arith in
+    ap (state p) e
+    ∙ ap (λ (s : State). state_after (stepped (turn_at p s) s) s) (stays_ended p n more h)
+    ∙ stop_stays (turn_at p (state p n)) (state p n) h
+
+ended_unaided : (p : Program) (n limit : ℕ) → IsUnaided p n → is_stop (turn_at p (state p n)) ≡ true →
+    IsAlone (deed_at p (state p n)) → IsUnaided p limit
+ended_unaided p n limit none stop here = λ k less. by_test (nat_lt k n)
+    (λ earlier. none k (ltb-true k n earlier))
+    (λ later.
+    let behind = ltb-false k n later in
+    let e : n + (k - n) ≡ k = omega (arith, behind) in
+    subst (λ (s : State). IsAlone (deed_at p s)) (sym (ap (state p) (sym e) ∙ stays_ended p n (k - n) stop)) here)
+
+stands_along : (p : Program) (named : ℕ → Bool) (limit : ℕ) (schedule : List Letter) (k : ℕ) →
+    Stands p (extended_after p named limit schedule k).moment
+unfolding extended_after
+stands_along p named limit schedule zero = stands_first p
+stands_along p named limit schedule (suc k) =
+    stands_on p named limit (letter_at schedule k) (extended_after p named limit schedule k) (stands_along p named limit schedule k)
+
+over_by : (p : Program) (limit : ℕ) (m : Moment) (ended : Bool) → m.ended ≡ ended → HasPast p limit m → IsUnaided p m.retired →
+    (m.ended ≡ true → IsAlone (deed_at p (state p m.retired))) → (ended || m.retired == limit) ≡ true → IsUnaided p limit
+over_by p limit m true is past none here idle = ended_unaided p m.retired limit none (past.ended is).next (here is)
+over_by p limit m false is past none here idle = subst (IsUnaided p) (eqb-true m.retired limit idle) none
+
+second_of : (a b : Bool) → (a && b) ≡ true → b ≡ true
+second_of true b h = h
+second_of false b h = absurd cc
+
+none_listed : (p : Program) (named : ℕ → Bool) (limit : ℕ) (schedule : List Letter) (o : EmulOutcome) →
+    IsExtendedOutcome p named limit schedule o → o.emulated ≡ [] → IsUnaided p limit
+unfolding extended_outcome
+none_listed p named limit schedule o run h =
+    let k = run.events in
+    let x : ExtendedMoment = extended_after p named limit schedule k in
+    let m : Moment = moment_after p named limit schedule k in
+    let listed : x.emulated ≡ [] = sym (ap (λ (y : EmulOutcome). y.emulated) run.value) ∙ h in
+    let to = plain_to p named limit schedule k listed in
+    let over : is_over p limit m ≡ true = sym (over_plain p limit x m to.same to.none) ∙ run.run.here in
+    let stands : Stands p m = subst (λ (y : ExtendedMoment). Stands p y.moment) to.same (stands_along p named limit schedule k) in
+    over_by p limit m m.ended refl (past_after p named limit schedule k) to.none
+    (λ ended. subst IsAlone (same_deed p m.retired to.none) (stands.ended ended))
+    (second_of (m.done == transaction_count p m.retired) (m.ended || m.retired == limit) over)
+
+-- the law
+pub plain_unaided : (p : Program) (named : ℕ → Bool) (limit : ℕ) (schedule : List Letter) (o : EmulOutcome) →
+    IsExtendedOutcome p named limit schedule o → IsPlainUnaided p named limit schedule o
+plain_unaided p named limit schedule o run = record {
+  none = (
+    none_listed p named limit schedule o run,
+    λ none. ap (λ (x : EmulOutcome). x.emulated) (plain_run p named limit schedule o none run),
+  );
+  moments = plain_moments p named limit schedule;
+  outcome = λ none. plain_is p named limit schedule o none run;
+}
