@@ -1,5 +1,5 @@
 -- The frames are flushed, and what the run came to is told.
-use Rattle.std.specs.Prelude.{ℕ, Bool, List, [], Option, true, ◌≡◌, ◌+◌, ◌^◌, map}
+use Rattle.std.specs.Prelude.{ℕ, Bool, List, [], Option, true, ◌≡◌, ◌+◌, ◌^◌}
 use Rattle.std.specs.BTreeSet.{contains}
 use Rattle.std.specs.Ordering.{nat_cmp}
 use Rattle.std.proofs.Common.{sym, ap, ap₂, subst, ◌∙◌}
@@ -25,7 +25,7 @@ use Rattle.m88_pager.specs.Inside.Bytes.{in_bytes}
 use Rattle.m88_pager.specs.Inside.Calls.{AreFlushed}
 use Rattle.m88_pager.specs.Inside.Came.{CameTo, IsFinished}
 use Rattle.m88_pager.specs.Inside.Contents.{Stands}
-use Rattle.m88_pager.specs.Inside.Seen.{AreCarried, held_by, marked}
+use Rattle.m88_pager.specs.Inside.Seen.{AreCarried, held_by}
 use Rattle.m88_pager.specs.Inside.Told.{AreChanged}
 use Rattle.m88_pager.specs.Pages.{HoldsWhereTold, page_of, writes_page}
 use Rattle.m88_pager.specs.Store.{PageMap}

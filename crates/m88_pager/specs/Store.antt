@@ -48,8 +48,8 @@ pub record IsPageRead (told told' : Option PageMap) (writes writes' : Option ℕ
 
 -- a page is put in, in place of one of this number, and counted: the pages and the count of writes, which stay where an
 -- error is answered, and the count of faults, which doesn't fall, and stays where none is
-pub record IsPageWritten {T : Type 0} (told told' : Option PageMap) (writes writes' : Option ℕ) (faults faults' page : ℕ)
-    (bytes : List ℕ) (result : Result T StoreError) : Type 0 where
+pub record IsPageWritten {T : Type 0} (told told' : Option PageMap) (writes writes' : Option ℕ) (faults faults' : ℕ)
+    (page : ℕ) (bytes : List ℕ) (result : Result T StoreError) : Type 0 where
   pub put : OnOk result (told' ≡ option_map (λ held. insert held page bytes) told)
   pub counted : OnOk result (WritesMore 1 writes writes')
   pub same : OnErr result (told' ≡ told)

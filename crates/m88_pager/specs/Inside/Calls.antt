@@ -1,5 +1,5 @@
 -- What a call makes of frames and of the store behind them, which tells its pages as they are before it and after it.
-use Rattle.std.specs.Prelude.{ℕ, Bool, true, false, List, [], ◌∷◌, ◌++◌, ◌==◌, All, OnOk, Option, Result, ◌≡◌, ◌≤◌, ◌<◌, ◌+◌, ◌-◌, ◌^◌, None, length, map, nat_eq, option_map, take, if◌then◌else◌}
+use Rattle.std.specs.Prelude.{ℕ, true, false, List, [], ◌∷◌, ◌++◌, ◌==◌, All, OnOk, Option, Result, ◌≡◌, ◌≤◌, ◌<◌, ◌+◌, ◌-◌, ◌^◌, None, length, map, nat_eq, option_map, take, if◌then◌else◌}
 use Rattle.std.specs.FinMap.{insert}
 use Rattle.std.specs.Map.{lookup}
 use Rattle.m88_base.specs.Pages.{page_bytes, page_number}

@@ -1,5 +1,5 @@
 -- What an event makes of a paged run, and what the run came to at a moment that is over.
-use Rattle.std.specs.Prelude.{ℕ, Bool, true, List, Option, ◌≡◌, ◌+◌, ◌<◌, ◌-◌, take}
+use Rattle.std.specs.Prelude.{ℕ, Bool, true, Option, ◌≡◌, ◌+◌, ◌<◌, ◌-◌, take}
 use Rattle.m88_base.specs.Image.{ProgramImage}
 use Rattle.m88_board.specs.Board.{BoardView, local_of}
 use Rattle.m88_board.specs.Calls.{StaysOnRun}

@@ -140,6 +140,18 @@ returns-clause-only c = λ p named o other. one_outcome p named c.args.limit c.a
 pub returns-clause-plain : goal.returns-clause-plain
 returns-clause-plain c = λ p named o. plain_unaided p named c.args.limit c.args.schedule.now o
 
+pub returns-in_err-board-clause-plain : goal.returns-in_err-board-clause-plain
+returns-in_err-board-clause-plain c = λ p named o. plain_unaided p named c.args.limit c.args.schedule.now o
+
+pub returns-in_err-ended-clause-plain : goal.returns-in_err-ended-clause-plain
+returns-in_err-ended-clause-plain c = λ p named o. plain_unaided p named c.args.limit c.args.schedule.now o
+
+pub returns-in_err-board-2-clause-plain : goal.returns-in_err-board-2-clause-plain
+returns-in_err-board-2-clause-plain c = λ p named o. plain_unaided p named c.args.limit c.args.schedule.now o
+
+pub returns-in_err-outcome-clause-plain : goal.returns-in_err-outcome-clause-plain
+returns-in_err-outcome-clause-plain c = λ p named o. plain_unaided p named c.args.limit c.args.schedule.now o
+
 pub returns-clause-outcome : goal.returns-clause-outcome
 returns-clause-outcome c = λ p of clear.
     let inv = c.loop-alloc.invariant in
