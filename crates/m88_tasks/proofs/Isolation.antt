@@ -5,7 +5,7 @@ use Rattle.std.proofs.lemmas.Bool.{eqb-true}
 use Rattle.m88_isa.proofs.Laws.{by_test}
 use Rattle.m88_event.specs.Timeline.{Moment, after_letter, is_over, opening_moment}
 use Rattle.m88_event.specs.declared.letter.Letter.{Letter}
-use Rattle.m88_tasks.specs.Shared.{Group, SharedMoment, after_share, after_turn, moments_then, opening_shared, over_at, owns_then, turn_at}
+use Rattle.m88_tasks.specs.Shared.{Group, SharedMoment, after_share, after_turn_letter, moments_then, opening_shared, over_at, owns_then, turn_letter_at}
 use Rattle.m88_tasks.specs.declared.letter.ShareLetter.{ShareLetter}
 use Rattle.m88_tasks.specs.declared.letter.ShareLetter.TheVariants as share
 use Rattle.m88_tasks.specs.declared.turned.Turned.{Turned}
@@ -60,7 +60,7 @@ apart_own g letter moments owns current apart goes = record {
 
 -- who runs doesn't matter
 apart_turn : (g : Group) (s : SharedMoment) (turned : Turned) → IsApart g s.moments s.owns →
-    IsApart g (after_turn turned s).moments (after_turn turned s).owns
+    IsApart g (after_turn_letter turned s).moments (after_turn_letter turned s).owns
 apart_turn g s (turned.Own happened) apart = apart
 apart_turn g s (turned.Switched switch) apart = apart
 apart_turn g s (turned.Held pending) apart = apart
@@ -70,4 +70,4 @@ apart_turn g s turned.Alone apart = apart
 pub apart_on : (g : Group) (letter : ShareLetter) (s : SharedMoment) → IsApart g s.moments s.owns → over_at g s.moments s.current ≡ false →
     IsApart g (after_share g letter s).moments (after_share g letter s).owns
 apart_on g (share.Own letter) s apart goes = apart_own g letter s.moments s.owns s.current apart goes
-apart_on g share.Turn s apart goes = apart_turn g s (turn_at g s) apart
+apart_on g share.Turn s apart goes = apart_turn g s (turn_letter_at g s) apart

@@ -7,7 +7,7 @@ use Rattle.m88_event.specs.Timeline.{Moment, is_drained, opening_moment}
 use Rattle.m88_event.specs.declared.letter.Letter.{Letter}
 use Rattle.m88_tasks.proofs.Choosing.{next_within, no_true, over_where_next, settled_lives, settled_within}
 use Rattle.m88_tasks.specs.Past.{HasSharedPast}
-use Rattle.m88_tasks.specs.Shared.{Group, SharedMoment, after_share, after_turn, all_over, first_alive, is_alone, moments_then, opening_shared, over_at, pending_in, switch_at, turn_at}
+use Rattle.m88_tasks.specs.Shared.{Group, SharedMoment, after_share, after_turn_letter, all_over, first_alive, is_alone, moments_then, opening_shared, over_at, pending_in, switch_at, turn_letter_at}
 use Rattle.m88_tasks.specs.declared.letter.ShareLetter.{ShareLetter}
 use Rattle.m88_tasks.specs.declared.letter.ShareLetter.TheVariants as share
 use Rattle.m88_tasks.specs.declared.turned.Turned.{Turned}
@@ -45,7 +45,7 @@ own_counted g letter s counted q =
 
 -- after the letter `t`
 turn_past : (g : Group) (s : SharedMoment) (held alone : Bool) → s.current < g.count → HasSharedPast g s →
-    HasSharedPast g (record (after_turn (if held then turned.Held (pending_in g s) else if alone then turned.Alone else turned.Switched (switch_at g s)) s)
+    HasSharedPast g (record (after_turn_letter (if held then turned.Held (pending_in g s) else if alone then turned.Alone else turned.Switched (switch_at g s)) s)
     { events = s.events + 1 })
 turn_past g s true alone here past = record { lives = past.lives; counted = λ q. let before = past.counted q in omega (arith, before) }
 turn_past g s false true here past = record { lives = past.lives; counted = λ q. let before = past.counted q in omega (arith, before) }
@@ -54,15 +54,15 @@ turn_past g s false false here past = record {
   counted = λ q. let before = past.counted q in omega (arith, before);
 }
 
-turn_events : (turned : Turned) (s : SharedMoment) → (after_turn turned s).events ≡ s.events
+turn_events : (turned : Turned) (s : SharedMoment) → (after_turn_letter turned s).events ≡ s.events
 turn_events (turned.Own happened) s = refl
 turn_events (turned.Switched switch) s = refl
 turn_events (turned.Held pending) s = refl
 turn_events turned.Alone s = refl
 
 turned_past : (g : Group) (s : SharedMoment) → s.current < g.count → HasSharedPast g s →
-    HasSharedPast g (record (after_turn (turn_at g s) s) { events = s.events + 1 })
-unfolding turn_at
+    HasSharedPast g (record (after_turn_letter (turn_letter_at g s) s) { events = s.events + 1 })
+unfolding turn_letter_at
 turned_past g s here past =
     turn_past g s (not (is_drained (g.programs s.current) (s.moments s.current))) (is_alone g s.moments s.current) here past
 
@@ -73,18 +73,18 @@ past_then g (share.Own letter) s here past = record {
   counted = own_counted g letter s past.counted;
 }
 past_then g share.Turn s here past =
-    subst (λ (n : ℕ). HasSharedPast g (record (after_turn (turn_at g s) s) { events = n })) (ap (λ (n : ℕ). n + 1) (sym (turn_events (turn_at g s) s)))
+    subst (λ (n : ℕ). HasSharedPast g (record (after_turn_letter (turn_letter_at g s) s) { events = n })) (ap (λ (n : ℕ). n + 1) (sym (turn_events (turn_letter_at g s) s)))
     (turned_past g s here past)
 
 -- the program that runs is one of them
 turn_within : (g : Group) (s : SharedMoment) (held alone : Bool) → s.current < g.count →
-    (after_turn (if held then turned.Held (pending_in g s) else if alone then turned.Alone else turned.Switched (switch_at g s)) s).current < g.count
+    (after_turn_letter (if held then turned.Held (pending_in g s) else if alone then turned.Alone else turned.Switched (switch_at g s)) s).current < g.count
 turn_within g s true alone here = here
 turn_within g s false true here = here
 turn_within g s false false here = next_within g s.moments s.current here
 
 pub within_then : (g : Group) (letter : ShareLetter) (s : SharedMoment) → s.current < g.count → (after_share g letter s).current < g.count
-unfolding turn_at
+unfolding turn_letter_at
 within_then g (share.Own letter) s here = settled_within g (moments_then g letter s.moments s.current) s.current here
 within_then g share.Turn s here =
     turn_within g s (not (is_drained (g.programs s.current) (s.moments s.current))) (is_alone g s.moments s.current) here
@@ -98,4 +98,4 @@ alive_by g s past some = by_test (over_at g s.moments s.current)
 -- so many events
 pub events_then : (g : Group) (letter : ShareLetter) (s : SharedMoment) → (after_share g letter s).events ≡ s.events + 1
 events_then g (share.Own letter) s = refl
-events_then g share.Turn s = ap (λ (n : ℕ). n + 1) (turn_events (turn_at g s) s)
+events_then g share.Turn s = ap (λ (n : ℕ). n + 1) (turn_events (turn_letter_at g s) s)

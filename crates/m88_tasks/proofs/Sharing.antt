@@ -18,7 +18,7 @@ use Rattle.m88_event.specs.declared.letter.Letter.{Letter}
 use Rattle.m88_event.specs.declared.letter.Letter.TheVariants.{Issue, Answer}
 use Rattle.m88_tasks.proofs.Letters.{behind}
 use Rattle.m88_tasks.specs.Letters.{share_letter_at}
-use Rattle.m88_tasks.specs.Shared.{Group, SharedMoment, after_share, after_turn, moments_then, over_at, settled_from, turn_at}
+use Rattle.m88_tasks.specs.Shared.{Group, SharedMoment, after_share, after_turn_letter, moments_then, over_at, settled_from, turn_letter_at}
 use Rattle.m88_tasks.specs.declared.letter.ShareLetter.{ShareLetter}
 use Rattle.m88_tasks.specs.declared.letter.ShareLetter.TheVariants as share
 use Rattle.m88_tasks.specs.declared.turned.Turned.{Turned}
@@ -214,7 +214,7 @@ outside_less g schedule k moments current can outside =
 
 -- who runs after a letter `t`
 turn_less : (g : Group) (schedule : List ShareLetter) (k : ℕ) (s : SharedMoment) (turned : Turned) → k < length schedule →
-    left g schedule (k + 1) (after_turn turned s).moments (after_turn turned s).current < left g schedule k s.moments s.current
+    left g schedule (k + 1) (after_turn_letter turned s).moments (after_turn_letter turned s).current < left g schedule k s.moments s.current
 turn_less g schedule k s (turned.Own happened) inside = inside_less g schedule k s.moments s.moments s.current s.current inside (λ q. omega arith) (λ q h. h)
 turn_less g schedule k s (turned.Switched switch) inside = inside_less g schedule k s.moments s.moments s.current switch.to inside (λ q. omega arith) (λ q h. h)
 turn_less g schedule k s (turned.Held pending) inside = inside_less g schedule k s.moments s.moments s.current s.current inside (λ q. omega arith) (λ q h. h)
@@ -226,7 +226,7 @@ letter_less : (g : Group) (schedule : List ShareLetter) (k : ℕ) (s : SharedMom
 letter_less g schedule k s (share.Own letter) can inside =
     inside_less g schedule k s.moments (moments_then g letter s.moments s.current) s.current
     (settled_from g (moments_then g letter s.moments s.current) s.current) inside (own_fuel g letter s.moments s.current can) (own_over g letter s.moments s.current can)
-letter_less g schedule k s share.Turn can inside = turn_less g schedule k s (turn_at g s) inside
+letter_less g schedule k s share.Turn can inside = turn_less g schedule k s (turn_letter_at g s) inside
 
 -- each letter of the run
 pub less_left : (g : Group) (schedule : List ShareLetter) (k : ℕ) (s : SharedMoment) → CanGo g s.moments s.current →

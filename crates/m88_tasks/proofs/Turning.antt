@@ -8,7 +8,7 @@ use Rattle.m88_event.specs.Timeline.{is_drained, record_at}
 use Rattle.m88_event.specs.declared.record.Record.{Record}
 use Rattle.m88_board.proofs.Laws.{drained_by}
 use Rattle.m88_tasks.proofs.Choosing.{alone_stays, others_next}
-use Rattle.m88_tasks.specs.Shared.{Group, SharedMoment, after_turn, is_alone, next_from, pending_in, switch_at, switch_by, turn_at}
+use Rattle.m88_tasks.specs.Shared.{Group, SharedMoment, after_turn_letter, is_alone, next_from, pending_in, switch_at, switch_by, turn_letter_at}
 use Rattle.m88_tasks.specs.Tasks.{ArePrograms, IsTaken, ProgramsView}
 use Rattle.m88_tasks.specs.declared.letter.ShareLetter.TheVariants as share
 use Rattle.m88_tasks.specs.declared.shared.Switch.{Switch}
@@ -16,13 +16,13 @@ use Rattle.m88_tasks.specs.declared.turned.Turned.{Turned}
 use Rattle.m88_tasks.specs.declared.turned.Turned.TheVariants as turned
 
 -- what is said is what the timeline says
-pub taken_turn : (g : Group) (s : SharedMoment) (turned : Turned) (v : ProgramsView) (switches : List Switch) → turned ≡ turn_at g s →
-    ArePrograms g (after_turn turned s).moments (after_turn turned s).current v → switches ≡ (after_turn turned s).switches →
+pub taken_turn : (g : Group) (s : SharedMoment) (turned : Turned) (v : ProgramsView) (switches : List Switch) → turned ≡ turn_letter_at g s →
+    ArePrograms g (after_turn_letter turned s).moments (after_turn_letter turned s).current v → switches ≡ (after_turn_letter turned s).switches →
     IsTaken g share.Turn s turned v switches
 taken_turn g s turned v switches says are joined = record {
   says = says;
-  programs = subst (λ (t : Turned). ArePrograms g (after_turn t s).moments (after_turn t s).current v) says are;
-  joined = subst (λ (t : Turned). switches ≡ (after_turn t s).switches) says joined;
+  programs = subst (λ (t : Turned). ArePrograms g (after_turn_letter t s).moments (after_turn_letter t s).current v) says are;
+  joined = subst (λ (t : Turned). switches ≡ (after_turn_letter t s).switches) says joined;
 }
 
 some_pending : (pending : List Access) → 0 < length pending → is_pending pending ≡ true
@@ -35,12 +35,12 @@ none_pending (a ∷ pending) n e h = absurd (omega (arith, e, h))
 
 -- something is pending
 is_held : (g : Group) (s : SharedMoment) → is_drained (g.programs s.current) (s.moments s.current) ≡ false →
-    turned.Held (pending_in g s) ≡ turn_at g s
-unfolding turn_at
+    turned.Held (pending_in g s) ≡ turn_letter_at g s
+unfolding turn_letter_at
 is_held g s h = rw h refl
 
 pub held : (g : Group) (s : SharedMoment) (n : ℕ) (v : ProgramsView) → ArePrograms g s.moments s.current v → n ≡ length v.board.pending →
-    n ≡ pending_in g s → 0 < n → turned.Held n ≡ turn_at g s
+    n ≡ pending_in g s → 0 < n → turned.Held n ≡ turn_letter_at g s
 held g s n v are seen many some =
     let drained = drained_by (g.programs s.current) g.named (s.moments s.current) v.board are.board in
     ap (λ (k : ℕ). turned.Held k) many
@@ -53,24 +53,24 @@ drained_then g s v are empty =
     sym (drained_by (g.programs s.current) g.named (s.moments s.current) v.board are.board) ∙ ap (λ (xs : List Access). not (is_pending xs)) empty
 
 is_alone_there : (g : Group) (s : SharedMoment) → is_drained (g.programs s.current) (s.moments s.current) ≡ true →
-    is_alone g s.moments s.current ≡ true → turned.Alone ≡ turn_at g s
-unfolding turn_at
+    is_alone g s.moments s.current ≡ true → turned.Alone ≡ turn_letter_at g s
+unfolding turn_letter_at
 is_alone_there g s d h = rw (d, h) refl
 
 pub alone : (g : Group) (s : SharedMoment) (v : ProgramsView) → ArePrograms g s.moments s.current v → v.board.pending ≡ [] →
-    next_from g s.moments s.current ≡ s.current → turned.Alone ≡ turn_at g s
+    next_from g s.moments s.current ≡ s.current → turned.Alone ≡ turn_letter_at g s
 alone g s v are empty same =
     is_alone_there g s (drained_then g s v are empty)
     (by_test (is_alone g s.moments s.current) (λ t. t) (λ f. absurd (others_next g s.moments s.current are.here f same)))
 
 -- nothing is, and another program is next
 is_switched : (g : Group) (s : SharedMoment) → is_drained (g.programs s.current) (s.moments s.current) ≡ true →
-    is_alone g s.moments s.current ≡ false → turned.Switched (switch_at g s) ≡ turn_at g s
-unfolding turn_at
+    is_alone g s.moments s.current ≡ false → turned.Switched (switch_at g s) ≡ turn_letter_at g s
+unfolding turn_letter_at
 is_switched g s d h = rw (d, h) refl
 
 pub switched : (g : Group) (s : SharedMoment) (v : ProgramsView) → ArePrograms g s.moments s.current v → v.board.pending ≡ [] →
-    next_from g s.moments s.current ≢ s.current → turned.Switched (switch_at g s) ≡ turn_at g s
+    next_from g s.moments s.current ≢ s.current → turned.Switched (switch_at g s) ≡ turn_letter_at g s
 switched g s v are empty other =
     is_switched g s (drained_then g s v are empty)
     (by_test (is_alone g s.moments s.current) (λ t. absurd (other (alone_stays g s.moments s.current are.here t))) (λ f. f))

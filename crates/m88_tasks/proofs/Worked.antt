@@ -29,7 +29,7 @@ use Rattle.m88_event.specs.declared.letter.Letter.TheVariants.{Answer, Evict, Is
 use Rattle.m88_event.specs.declared.outcome.Outcome.{Outcome}
 use Rattle.m88_event.specs.declared.record.Record.{Record}
 use Rattle.m88_tasks.specs.Letters.{share_letter_at}
-use Rattle.m88_tasks.specs.Shared.{Group, IsSharedRun, SharedMoment, all_over, next_from, outcomes_of, shared_after, shared_at, turn_at, turned_at}
+use Rattle.m88_tasks.specs.Shared.{Group, IsSharedRun, SharedMoment, all_over, next_from, outcomes_of, shared_after, shared_at, turn_letter_at, turned_at}
 use Rattle.m88_tasks.specs.declared.letter.ShareLetter.{ShareLetter}
 use Rattle.m88_tasks.specs.declared.letter.ShareLetter.TheVariants.{Own, Turn}
 use Rattle.m88_tasks.specs.declared.shared.Shared.{Shared}
@@ -310,9 +310,9 @@ each_after (w ∷ runs) none here =
     (first_after (over_at w) w.comes.events not_before over, each_after runs before after)
 
 events_by_hand : HaveEvents worked
-unfolding worked divided divided_by held cycled cycled_by apart idle shared_after share_letter_at next_from turn_at outcomes_of outcome_at after_letter situation_at record_of xip_at state opening transactions waits_for busy_register first_from uses_of writes_of in_words set.bits_below
+unfolding worked divided divided_by held cycled cycled_by apart idle shared_after share_letter_at next_from turn_letter_at outcomes_of outcome_at after_letter situation_at record_of xip_at state opening transactions waits_for busy_register first_from uses_of writes_of in_words set.bits_below
 events_by_hand = each_after worked refl refl
 
 as_by_hand : map came worked ≡ map (λ w. w.comes) worked
-unfolding worked divided divided_by held cycled cycled_by apart idle shared_after share_letter_at next_from turn_at outcomes_of outcome_at after_letter situation_at record_of xip_at state opening transactions waits_for busy_register first_from uses_of writes_of in_words set.bits_below
+unfolding worked divided divided_by held cycled cycled_by apart idle shared_after share_letter_at next_from turn_letter_at outcomes_of outcome_at after_letter situation_at record_of xip_at state opening transactions waits_for busy_register first_from uses_of writes_of in_words set.bits_below
 as_by_hand = refl

@@ -126,29 +126,29 @@ pending_in g s =
 
 -- the letter `t`, the first that applies: it is held where the program that runs has something pending, changes nothing
 -- where every other program is over, and else the next program runs
-unfoldable pub turn_at : Group → SharedMoment → Turned
-turn_at g s =
+unfoldable pub turn_letter_at : Group → SharedMoment → Turned
+turn_letter_at g s =
     if not (is_drained (g.programs s.current) (s.moments s.current))
     then turned.Held (pending_in g s)
     else if is_alone g s.moments s.current then turned.Alone
     else turned.Switched (switch_at g s)
 
 -- a switch joins the others, and its program runs; nothing else changes anything
-abbrev pub after_turn : Turned → SharedMoment → SharedMoment
-after_turn (turned.Switched switch) s =
+abbrev pub after_turn_letter : Turned → SharedMoment → SharedMoment
+after_turn_letter (turned.Switched switch) s =
     record s { current = switch.to; switches = s.switches ++ (switch ∷ []) }
-after_turn _ s = s
+after_turn_letter _ s = s
 
 -- the shared moment after a letter
 abbrev pub after_share : Group → ShareLetter → SharedMoment → SharedMoment
 after_share g (share.Own letter) s = with_shared_event (after_own g letter s)
-after_share g share.Turn s = with_shared_event (after_turn (turn_at g s) s)
+after_share g share.Turn s = with_shared_event (after_turn_letter (turn_letter_at g s) s)
 
 -- what the event of a letter says
 abbrev pub turned_at : Group → ShareLetter → SharedMoment → Turned
 turned_at g (share.Own letter) s =
     turned.Own (said_at (g.programs s.current) g.named g.limit letter (s.moments s.current))
-turned_at g share.Turn s = turn_at g s
+turned_at g share.Turn s = turn_letter_at g s
 
 -- the shared moment after as many events of a run
 unfoldable pub shared_after : Group → List ShareLetter → ℕ → SharedMoment
