@@ -14,7 +14,7 @@ use Rattle.m88_link.specs.declared.object.Section.{Section}
 use Rattle.m88_link.specs.declared.object.Symbol.{Symbol}
 use Rattle.m88_link.specs.Bases.{Placement, base_at, base_of}
 use Rattle.m88_link.specs.declared.object.Object.{Object}
-use Rattle.m88_link.specs.Inside.Lent.{bytes_in}
+use Rattle.m88_link.specs.Inside.Lent.{own_or_lent}
 use Rattle.m88_link.specs.Inside.Carried.{HasWord, unpatched, carried, numbered, patched_in, patched_spot}
 use Rattle.m88_link.specs.Field.{patched_word}
 use Rattle.m88_link.specs.Layout.{spot, spots_of, value_of_name}
@@ -35,7 +35,7 @@ patched_length kind bytes offset target at h =
     )
 
 -- a copy that has bytes is what the bytes are
-pub own_bytes : (own lent : List ℕ) → 0 < length own → bytes_in own lent ≡ own
+pub own_bytes : (own lent : List ℕ) → 0 < length own → own_or_lent own lent ≡ own
 own_bytes [] lent h = absurd (omega arith)
 own_bytes (b ∷ own) lent h = refl
 

@@ -10,7 +10,7 @@ use Rattle.m88_link.specs.declared.object.Place.{Place}
 use Rattle.m88_link.specs.declared.object.Place.TheVariants.{Text, DataSection}
 use Rattle.m88_link.specs.declared.object.Section.{Section}
 use Rattle.m88_link.specs.declared.row.Row.TheVariants.{Begin, End}
-use Rattle.m88_link.specs.Inside.Drafts.{Begun, Filled, Progress, may_stand, object_with}
+use Rattle.m88_link.specs.Inside.Drafts.{BegunObject, Filled, Progress, may_stand, object_with}
 use Rattle.m88_link.specs.ObjectRead.{HasSectionText, HasText, HaveText}
 use Rattle.m88_link.proofs.RowTexts.{row_text}
 use Rattle.m88_link.proofs.Written.{byte_rows, draft_rows, filled_rows, head_row, object_rows, objects_rows, open_rows, rows_prefix, section_rows, sections_rows, written}
@@ -34,7 +34,7 @@ further rows more all e c = record {
 }
 
 -- an object with text and data
-whole_completed : (d : Begun) → IsKept d → d.filling ≡ None → 2 ≤ length d.sections → Completed (draft_rows d)
+whole_completed : (d : BegunObject) → IsKept d → d.filling ≡ None → 2 ≤ length d.sections → Completed (draft_rows d)
 whole_completed d kept none two = record {
   object = object_with d;
   has = record { name = kept.name; order = order_whole d.sections two kept.order; sections = kept.sections; symbols = kept.symbols; relocs = kept.relocs };
@@ -96,7 +96,7 @@ zeros_small zero = tt
 zeros_small (suc n) = (omega arith, zeros_small n)
 
 -- a section whose bytes come, with zeros for those that are missing
-filling_completed : (d : Begun) (f : Filled) → IsKept d → d.filling ≡ Some f → Completed (draft_rows d)
+filling_completed : (d : BegunObject) (f : Filled) → IsKept d → d.filling ≡ Some f → Completed (draft_rows d)
 filling_completed d f kept e =
     let k : IsFilling d f = subst (λ o. IfSome o (IsFilling d)) e kept.filling in
     let zeros : List ℕ = replicate f.missing 0 in
@@ -126,14 +126,14 @@ filling_completed d f kept e =
     (bare_completed d.name kept.name (d.sections ++ s ∷ []) (kept_more d.name kept.name d.sections s kept.order kept.sections h k.fillable.next))
 
 -- an object whose end hasn't come
-by_sections : (d : Begun) → IsKept d → d.filling ≡ None → (n : ℕ) → length d.sections ≡ n → Completed (draft_rows d)
+by_sections : (d : BegunObject) → IsKept d → d.filling ≡ None → (n : ℕ) → length d.sections ≡ n → Completed (draft_rows d)
 by_sections d kept none zero e = few_completed
   where
     few_completed : Completed (draft_rows d)
     few_completed =
         let k = kept.few (omega (arith, e)) in
         let is : d ≡ bare d.name d.sections None = bare_is d None none k.0 k.1 in
-        let P : Begun → Type 0 = λ b. Completed (draft_rows b) in
+        let P : BegunObject → Type 0 = λ b. Completed (draft_rows b) in
         subst P (sym is) (bare_completed d.name kept.name d.sections (subst IsKept is kept))
 by_sections d kept none (suc zero) e = few_completed
   where
@@ -141,11 +141,11 @@ by_sections d kept none (suc zero) e = few_completed
     few_completed =
         let k = kept.few (omega (arith, e)) in
         let is : d ≡ bare d.name d.sections None = bare_is d None none k.0 k.1 in
-        let P : Begun → Type 0 = λ b. Completed (draft_rows b) in
+        let P : BegunObject → Type 0 = λ b. Completed (draft_rows b) in
         subst P (sym is) (bare_completed d.name kept.name d.sections (subst IsKept is kept))
 by_sections d kept none (suc (suc n)) e = whole_completed d kept none (omega (arith, e))
 
-by_filling : (d : Begun) (o : Option Filled) → IsKept d → d.filling ≡ o → Completed (draft_rows d)
+by_filling : (d : BegunObject) (o : Option Filled) → IsKept d → d.filling ≡ o → Completed (draft_rows d)
 by_filling d None kept e = by_sections d kept e (length d.sections) refl
 by_filling d (Some f) kept e = filling_completed d f kept e
 
@@ -159,7 +159,7 @@ pub record Continues (rows : List (List ℕ)) : Type 0 where
 some_name : IsName (codes "a")
 some_name = (refl, λ k d h. absurd (omega arith), omega arith)
 
-by_draft : (done : List Object) (o : Option Begun) → AllByRecursion HasText done → IfSome o IsKept → Continues (objects_rows done ++ open_rows o)
+by_draft : (done : List Object) (o : Option BegunObject) → AllByRecursion HasText done → IfSome o IsKept → Continues (objects_rows done ++ open_rows o)
 by_draft [] None h k =
     let kept : IsKept (bare (codes "a") [] None) = record {
       name = some_name;

@@ -5,7 +5,7 @@ use Rattle.std.specs.List.{AllByRecursion, list_all}
 use Rattle.std.proofs.lemmas.Bool.{and_parts, lt-ltb, ltb-true}
 use Rattle.std.proofs.lemmas.List.Elements.{All-from_recursion, recursion_from_All}
 use Rattle.m88_base.specs.Name.{IsName, begins_name, continues_name}
-use Rattle.m88_link.specs.Inside.Rows.{is_name_text, name_of}
+use Rattle.m88_link.specs.Inside.Rows.{is_name_text, name_written}
 
 -- the test of names
 all_true : (p : ℕ → Bool) (bs : List ℕ) → AllByRecursion (λ b. IsTrue (p b)) bs → list_all p bs ≡ true
@@ -36,7 +36,7 @@ is_named (b ∷ bs) e =
     (l.0, All-from_recursion (λ b. IsTrue (continues_name b)) bs (true_all continues_name bs l.1), ltb-true (length bs) 64 k.1)
 
 -- a call that tells a name exactly where the bytes are one
-pub told_name : (r : Option (List ℕ)) (text : List ℕ) → (IsSome r ↔ IsName text) → IfSome r (λ name. name ≡ text) → r ≡ name_of text
+pub told_name : (r : Option (List ℕ)) (text : List ℕ) → (IsSome r ↔ IsName text) → IfSome r (λ name. name ≡ text) → r ≡ name_written text
 told_name r text valid value = by_test (is_name_text text) refl r valid value
   where
     by_test : (t : Bool) → is_name_text text ≡ t → (r : Option (List ℕ)) → (IsSome r ↔ IsName text) → IfSome r (λ name. name ≡ text)

@@ -18,7 +18,7 @@ use Rattle.m88_link.specs.declared.object.Symbol.{Symbol}
 use Rattle.m88_link.specs.declared.row.Row.{Row}
 use Rattle.m88_link.specs.declared.row.Row.TheVariants.{Begin, Head, Define, Patch, End}
 use Rattle.m88_link.specs.declared.row.SectionHead.{SectionHead}
-use Rattle.m88_link.specs.Inside.Drafts.{Begun, Filled, Progress, bytes_step, define_step, end_step, begin_step, head_step, headed, may_stand, line_step, more_bytes, only_named, object_with, patch_step, row_step, settled, section_with, within}
+use Rattle.m88_link.specs.Inside.Drafts.{BegunObject, Filled, Progress, bytes_step, define_step, end_step, begin_step, head_step, headed, may_stand, line_step, more_bytes, only_named, object_with, patch_step, row_step, with_section_settled, section_with, within}
 use Rattle.m88_link.specs.ObjectRead.{HasRelocText, HasSectionText, HasSymbolText, HasText}
 use Rattle.m88_link.specs.Inside.Rows.{◌>>=◌, bytes_behind, row_in}
 use Rattle.m88_link.specs.Sound.{AreSections, IsOwnAddress}
@@ -69,10 +69,10 @@ unfolding line_step
 bytes_taken s digits = refl
 
 -- the object goes on
-abbrev pub going : List Object → Begun → Progress
+abbrev pub going : List Object → BegunObject → Progress
 going done d = record { done = done; draft = Some d }
 
-within_is : (done : List Object) (d e : Begun) (step : Begun → Option Begun) → step d ≡ Some e → within (going done d) step ≡ Some (going done e)
+within_is : (done : List Object) (d e : BegunObject) (step : BegunObject → Option BegunObject) → step d ≡ Some e → within (going done d) step ≡ Some (going done e)
 within_is done d e step h = ap (λ o. o >>= λ e. Some (going done e)) h
 
 -- bytes of a section
@@ -92,18 +92,18 @@ module _ (done : List Object) (name : List ℕ) (sections : List Section) (place
 
   bytes_step_is : (bytes bs : List ℕ) (missing : ℕ) → AllByRecursion (λ b. b < 2 ^ 8) bs → length bs ≡ min missing 32
       → bytes_step (flat_map hex2 bs) (bare name sections (Some (filled bytes missing)))
-      ≡ Some (settled (bare name sections None) (filled (bytes ++ bs) (missing - min missing 32)))
+      ≡ Some (with_section_settled (bare name sections None) (filled (bytes ++ bs) (missing - min missing 32)))
   unfolding bytes_step
-  bytes_step_is bytes bs missing small size = ap (λ o. o >>= λ g. Some (settled (bare name sections None) g)) (more_is bytes bs missing small size)
+  bytes_step_is bytes bs missing small size = ap (λ o. o >>= λ g. Some (with_section_settled (bare name sections None) g)) (more_is bytes bs missing small size)
 
   byte_row_taken : (bytes bs : List ℕ) (missing : ℕ) → AllByRecursion (λ b. b < 2 ^ 8) bs → length bs ≡ min missing 32
       → line_step (going done (bare name sections (Some (filled bytes missing)))) (byte_row bs)
-      ≡ Some (going done (settled (bare name sections None) (filled (bytes ++ bs) (missing - min missing 32))))
+      ≡ Some (going done (with_section_settled (bare name sections None) (filled (bytes ++ bs) (missing - min missing 32))))
   byte_row_taken bytes bs missing small size =
       bytes_taken (going done (bare name sections (Some (filled bytes missing)))) (flat_map hex2 bs)
       ∙ within_is done (bare name sections (Some (filled bytes missing))) _ (bytes_step (flat_map hex2 bs)) (bytes_step_is bytes bs missing small size)
 
-  settled_more : (bytes : List ℕ) (missing : ℕ) → 1 ≤ missing → settled (bare name sections None) (filled bytes missing) ≡ bare name sections (Some (filled bytes missing))
+  settled_more : (bytes : List ℕ) (missing : ℕ) → 1 ≤ missing → with_section_settled (bare name sections None) (filled bytes missing) ≡ bare name sections (Some (filled bytes missing))
   settled_more bytes missing some =
       ap (λ (t : Bool). if t then bare name (sections ++ section_with (filled bytes missing) ∷ []) None else bare name sections (Some (filled bytes missing)))
       (apart missing some)
@@ -127,7 +127,7 @@ module _ (done : List Object) (name : List ℕ) (sections : List Section) (place
 
   -- where some bytes are missing
   abbrev lacking : List ℕ → ℕ → Progress
-  lacking bytes missing = going done (settled (bare name sections None) (filled bytes missing))
+  lacking bytes missing = going done (with_section_settled (bare name sections None) (filled bytes missing))
 
   -- the lines of the bytes that are missing
   fill : (fuel : ℕ) (bytes rest : List ℕ) → length rest ≤ fuel → 1 ≤ length rest → AllByRecursion (λ b. b < 2 ^ 8) rest
@@ -171,20 +171,20 @@ module _ (done : List Object) (name : List ℕ) (sections : List Section) (place
 
 -- a section
 module _ (done : List Object) (name : List ℕ) (sections : List Section) where
-  abbrev before_it : Begun
+  abbrev before_it : BegunObject
   before_it = bare name sections None
 
-  head_step_is : (h : SectionHead) → may_stand (length sections) h.place ≡ true → head_step h before_it ≡ Some (settled before_it (headed h))
+  head_step_is : (h : SectionHead) → may_stand (length sections) h.place ≡ true → head_step h before_it ≡ Some (with_section_settled before_it (headed h))
   unfolding head_step
-  head_step_is h next = ap (λ (t : Bool). if t then Some (settled before_it (headed h)) else None) next
+  head_step_is h next = ap (λ (t : Bool). if t then Some (with_section_settled before_it (headed h)) else None) next
 
   head_taken : (h : SectionHead) → IsRow (Head h) → may_stand (length sections) h.place ≡ true
-      → line_step (going done before_it) (row_text (Head h)) ≡ Some (going done (settled before_it (headed h)))
+      → line_step (going done before_it) (row_text (Head h)) ≡ Some (going done (with_section_settled before_it (headed h)))
   head_taken h good next =
-      row_taken (going done before_it) (Head h) good ∙ within_is done before_it (settled before_it (headed h)) (head_step h) (head_step_is h next)
+      row_taken (going done before_it) (Head h) good ∙ within_is done before_it (with_section_settled before_it (headed h)) (head_step h) (head_step_is h next)
 
   settled_head : (h : SectionHead) (n : ℕ) → h.len ≡ n → (b : Bool) → (n == 0) ≡ b
-      → settled before_it (headed h) ≡ (if b then bare name (sections ++ section_with (headed h) ∷ []) None else bare name sections (Some (headed h)))
+      → with_section_settled before_it (headed h) ≡ (if b then bare name (sections ++ section_with (headed h) ∷ []) None else bare name sections (Some (headed h)))
   settled_head h n is b e =
       ap (λ (k : ℕ). if k == 0 then bare name (sections ++ section_with (headed h) ∷ []) None else bare name sections (Some (headed h))) is
       ∙ ap (λ (t : Bool). if t then bare name (sections ++ section_with (headed h) ∷ []) None else bare name sections (Some (headed h))) e
@@ -256,7 +256,7 @@ sections_taken done name (t ∷ d ∷ others) h k =
 
 -- symbols and relocations
 module _ (done : List Object) (name : List ℕ) (sections : List Section) (two : 2 ≤ length sections) where
-  abbrev with_both : List Symbol → List Reloc → Begun
+  abbrev with_both : List Symbol → List Reloc → BegunObject
   with_both symbols relocs = record { name = name; sections = sections; filling = None; symbols = symbols; relocs = relocs }
 
   define_is : (s : Symbol) (symbols : List Symbol) → define_step s (with_both symbols []) ≡ Some (with_both (symbols ++ s ∷ []) [])

@@ -14,7 +14,7 @@ use Rattle.m88_link.specs.declared.object.Section.{Section}
 use Rattle.m88_link.specs.declared.object.Symbol.{Symbol}
 use Rattle.m88_link.specs.declared.row.Row.{Row}
 use Rattle.m88_link.specs.declared.row.Row.TheVariants.{Begin, Head, Define, Patch, End}
-use Rattle.m88_link.specs.Inside.Drafts.{Begun, Filled, Progress, bytes_step, define_step, end_step, begin_step, head_step, is_nil, is_whole, line_step, more_bytes, only_named, object_with, patch_step, row_step, settled, within}
+use Rattle.m88_link.specs.Inside.Drafts.{BegunObject, Filled, Progress, bytes_step, define_step, end_step, begin_step, head_step, is_nil, is_whole, line_step, more_bytes, only_named, object_with, patch_step, row_step, with_section_settled, within}
 use Rattle.m88_link.specs.ObjectRead.{HasRelocText, HasSymbolText, HasText}
 use Rattle.m88_link.specs.Inside.Rows.{◌>>=◌, bytes_behind, bytes_by_digits, row_in}
 use Rattle.m88_link.proofs.ByteTexts.{bytes_back, length-digits}
@@ -75,7 +75,7 @@ more_fills digits f g n h some step = by_size (length digits == 2 * min f.missin
     by_size false size step = absurd cc
 
 bytes_goes_bare : (name : List ℕ) (sections : List Section) (f g : Filled) (digits : List ℕ) → IsKept (bare name sections (Some f))
-    → Fills f g (length sections) digits → Goes (bare name sections (Some f)) (settled (bare name sections None) g) (61 ∷ digits)
+    → Fills f g (length sections) digits → Goes (bare name sections (Some f)) (with_section_settled (bare name sections None) g) (61 ∷ digits)
 bytes_goes_bare name sections f g digits kept fill =
     let s = is_settled name sections g kept.name kept.order kept.sections fill.fillable in
     record {
@@ -85,31 +85,31 @@ bytes_goes_bare name sections f g digits kept fill =
           ∙ ap (λ l. l ++ (61 ∷ digits) ∷ []) (sym (bare_rows name sections (Some f)));
     }
 
-filling_of : (d : Begun) (f : Filled) → IsKept d → d.filling ≡ Some f → IsFilling d f
+filling_of : (d : BegunObject) (f : Filled) → IsKept d → d.filling ≡ Some f → IsFilling d f
 filling_of d f kept e = subst (λ o. IfSome o (IsFilling d)) e kept.filling
 
-bytes_goes_filling : (digits : List ℕ) (d e : Begun) (f g : Filled) → IsKept d → d.filling ≡ Some f → more_bytes digits f ≡ Some g → settled d g ≡ e
+bytes_goes_filling : (digits : List ℕ) (d e : BegunObject) (f g : Filled) → IsKept d → d.filling ≡ Some f → more_bytes digits f ≡ Some g → with_section_settled d g ≡ e
     → Goes d e (61 ∷ digits)
 bytes_goes_filling digits d e f g kept is more same =
     let k = filling_of d f kept is in
     let whole : d ≡ bare d.name d.sections (Some f) = bare_is d (Some f) is k.symbols k.relocs in
     let fill = more_fills digits f g (length d.sections) k.fillable k.some more in
-    let P : Begun → Type 0 = λ b. Goes b (settled b g) (61 ∷ digits) in
+    let P : BegunObject → Type 0 = λ b. Goes b (with_section_settled b g) (61 ∷ digits) in
     let there : P (bare d.name d.sections (Some f)) = bytes_goes_bare d.name d.sections f g digits (subst IsKept whole kept) fill in
     let here : P d = subst P (sym whole) there in
     subst (λ b. Goes d b (61 ∷ digits)) same here
 
-pub bytes_goes : (digits : List ℕ) (d e : Begun) → IsKept d → bytes_step digits d ≡ Some e → Goes d e (61 ∷ digits)
+pub bytes_goes : (digits : List ℕ) (d e : BegunObject) → IsKept d → bytes_step digits d ≡ Some e → Goes d e (61 ∷ digits)
 unfolding bytes_step
 bytes_goes digits d e kept step =
     option_and_then_some _ d.filling e step (λ f e1 f1.
     option_and_then_some _ (more_bytes digits f) e f1 (λ g e2 f2.
-    let same : settled d g ≡ e = cc in
+    let same : with_section_settled d g ≡ e = cc in
     bytes_goes_filling digits d e f g kept e1 e2 same))
 
 -- a symbol
 module _ (name : List ℕ) (sections : List Section) (symbols : List Symbol) where
-  abbrev with_symbols : List Symbol → Begun
+  abbrev with_symbols : List Symbol → BegunObject
   with_symbols l = record { name = name; sections = sections; filling = None; symbols = l; relocs = [] }
 
   define_goes_bare : (s : Symbol) → IsKept (with_symbols symbols) → 2 ≤ length sections → HasSymbolText s
@@ -129,16 +129,16 @@ module _ (name : List ℕ) (sections : List Section) (symbols : List Symbol) whe
         ∙ ap (λ l. row_text (Begin name) ∷ ((sections_rows sections ++ l) ++ row_text (Define s) ∷ [])) (sym (append-nil (symbol_rows symbols)));
   }
 
-pub define_goes : (s : Symbol) (d e : Begun) → IsKept d → HasSymbolText s → define_step s d ≡ Some e → Goes d e (row_text (Define s))
+pub define_goes : (s : Symbol) (d e : BegunObject) → IsKept d → HasSymbolText s → define_step s d ≡ Some e → Goes d e (row_text (Define s))
 unfolding define_step
 define_goes s d e kept h step =
     let t = if_some (is_whole d && is_nil d.relocs) (record d { symbols = d.symbols ++ s ∷ [] }) e step in
     let t1 = and_parts (is_whole d) (is_nil d.relocs) t.0 in
     let t2 = and_parts (is_none d.filling) (nat_le 2 (length d.sections)) t1.0 in
     let is : d ≡ with_symbols d.name d.sections d.symbols d.symbols =
-    ap (λ (o : Option Filled). let b : Begun = record d { filling = o } in b) (none_is d.filling t2.0)
-    ∙ ap (λ (l : List Reloc). let b : Begun = record { name = d.name; sections = d.sections; filling = None; symbols = d.symbols; relocs = l } in b) (bare_nil d.relocs t1.1) in
-    let P : Begun → Type 0 = λ b. Goes b (record b { symbols = b.symbols ++ s ∷ [] }) (row_text (Define s)) in
+    ap (λ (o : Option Filled). let b : BegunObject = record d { filling = o } in b) (none_is d.filling t2.0)
+    ∙ ap (λ (l : List Reloc). let b : BegunObject = record { name = d.name; sections = d.sections; filling = None; symbols = d.symbols; relocs = l } in b) (bare_nil d.relocs t1.1) in
+    let P : BegunObject → Type 0 = λ b. Goes b (record b { symbols = b.symbols ++ s ∷ [] }) (row_text (Define s)) in
     let there : P (with_symbols d.name d.sections d.symbols d.symbols) =
     define_goes_bare d.name d.sections d.symbols s (subst IsKept is kept) (leb-true 2 (length d.sections) t2.1) h in
     let here : P d = subst P (sym is) there in
@@ -146,7 +146,7 @@ define_goes s d e kept h step =
 
 -- a relocation
 module _ (name : List ℕ) (sections : List Section) (symbols : List Symbol) (relocs : List Reloc) where
-  abbrev with_relocs : List Reloc → Begun
+  abbrev with_relocs : List Reloc → BegunObject
   with_relocs l = record { name = name; sections = sections; filling = None; symbols = symbols; relocs = l }
 
   patch_goes_bare : (r : Reloc) → IsKept (with_relocs relocs) → 2 ≤ length sections → HasRelocText r
@@ -166,14 +166,14 @@ module _ (name : List ℕ) (sections : List Section) (symbols : List Symbol) (re
         ∙ ap (λ l. row_text (Begin name) ∷ l) (sym (append_assoc (sections_rows sections) (symbol_rows symbols ++ reloc_rows relocs) (row_text (Patch r) ∷ [])));
   }
 
-pub patch_goes : (r : Reloc) (d e : Begun) → IsKept d → HasRelocText r → patch_step r d ≡ Some e → Goes d e (row_text (Patch r))
+pub patch_goes : (r : Reloc) (d e : BegunObject) → IsKept d → HasRelocText r → patch_step r d ≡ Some e → Goes d e (row_text (Patch r))
 unfolding patch_step
 patch_goes r d e kept h step =
     let t = if_some (is_whole d) (record d { relocs = d.relocs ++ r ∷ [] }) e step in
     let t2 = and_parts (is_none d.filling) (nat_le 2 (length d.sections)) t.0 in
     let is : d ≡ with_relocs d.name d.sections d.symbols d.relocs d.relocs =
-    ap (λ (o : Option Filled). let b : Begun = record d { filling = o } in b) (none_is d.filling t2.0) in
-    let P : Begun → Type 0 = λ b. Goes b (record b { relocs = b.relocs ++ r ∷ [] }) (row_text (Patch r)) in
+    ap (λ (o : Option Filled). let b : BegunObject = record d { filling = o } in b) (none_is d.filling t2.0) in
+    let P : BegunObject → Type 0 = λ b. Goes b (record b { relocs = b.relocs ++ r ∷ [] }) (row_text (Patch r)) in
     let there : P (with_relocs d.name d.sections d.symbols d.relocs d.relocs) =
     patch_goes_bare d.name d.sections d.symbols d.relocs r (subst IsKept is kept) (leb-true 2 (length d.sections) t2.1) h in
     let here : P d = subst P (sym is) there in
@@ -184,12 +184,12 @@ pub record Went (s t : Progress) (line : List ℕ) : Type 0 where
   pub kept : IsProgress t
   pub rows : written t ≡ written s ++ line ∷ []
 
-draft_of : (s : Progress) (d : Begun) → IsProgress s → s.draft ≡ Some d → IsKept d
+draft_of : (s : Progress) (d : BegunObject) → IsProgress s → s.draft ≡ Some d → IsKept d
 draft_of s d kept e = subst (λ o. IfSome o IsKept) e kept.draft
 
 -- the object goes on
-pub within_went : (s t : Progress) (step : Begun → Option Begun) (line : List ℕ) → IsProgress s
-    → ((d e : Begun) → IsKept d → step d ≡ Some e → Goes d e line) → within s step ≡ Some t → Went s t line
+pub within_went : (s t : Progress) (step : BegunObject → Option BegunObject) (line : List ℕ) → IsProgress s
+    → ((d e : BegunObject) → IsKept d → step d ≡ Some e → Goes d e line) → within s step ≡ Some t → Went s t line
 within_went s t step line kept goes h =
     option_and_then_some _ s.draft t h (λ d e1 f1.
     option_and_then_some _ (step d) t f1 (λ e e2 f2.
@@ -225,7 +225,7 @@ begin_went s t name kept h step =
     })
 
 -- the lines of an object that ends
-pub whole_rows : (d : Begun) → d.filling ≡ None → object_rows (object_with d) ≡ draft_rows d ++ row_text End ∷ []
+pub whole_rows : (d : BegunObject) → d.filling ≡ None → object_rows (object_with d) ≡ draft_rows d ++ row_text End ∷ []
 whole_rows d none =
     ap (λ l. row_text (Begin d.name) ∷ (sections_rows d.sections ++ l)) (sym (append_assoc (symbol_rows d.symbols) (reloc_rows d.relocs) (row_text End ∷ [])))
     ∙ ap (λ l. row_text (Begin d.name) ∷ l) (sym (append_assoc (sections_rows d.sections) (symbol_rows d.symbols ++ reloc_rows d.relocs) (row_text End ∷ [])))
@@ -233,7 +233,7 @@ whole_rows d none =
     (sym none)
 
 -- an object ends
-end_went_whole : (s : Progress) (d : Begun) → IsProgress s → s.draft ≡ Some d → is_whole d ≡ true
+end_went_whole : (s : Progress) (d : BegunObject) → IsProgress s → s.draft ≡ Some d → is_whole d ≡ true
     → Went s (record { done = s.done ++ object_with d ∷ []; draft = None }) (row_text End)
 end_went_whole s d kept e whole =
     let k = draft_of s d kept e in

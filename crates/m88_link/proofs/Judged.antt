@@ -10,7 +10,7 @@ use Rattle.std.proofs.lemmas.Option.{option_and_then_some}
 use Rattle.m88_link.specs.declared.object.Object.{Object}
 use Rattle.m88_link.specs.declared.object_fault.ObjectFault.{ObjectFault}
 use Rattle.m88_link.specs.declared.object_fault.ObjectFault.TheVariants.{Form}
-use Rattle.m88_link.specs.Inside.Drafts.{Begun, Progress, at_rest, ended_step, is_nil, line_step, nothing_read, read_from, read_on, unended}
+use Rattle.m88_link.specs.Inside.Drafts.{BegunObject, Progress, at_rest, ended_step, is_nil, line_step, nothing_read, read_from, read_on, unended}
 use Rattle.m88_link.specs.ObjectRead.{HasText, HaveText, IsContinued, IsFormLine, ended_lines}
 use Rattle.m88_link.specs.ObjectText.{objects_text}
 use Rattle.m88_base.specs.Cut.{split_at_byte}
@@ -96,7 +96,7 @@ rested_at : (n : ℕ) (t : Progress) (b : Bool) → (is_none t.draft && nat_le 1
 rested_at n t true e os h =
     let k = and_parts (is_none t.draft) (nat_le 1 (length t.done)) e in
     let same : t.done ≡ os = cc in
-    let is : t ≡ rested t.done = ap (λ (o : Option Begun). let p : Progress = record { done = t.done; draft = o } in p) (none_is t.draft k.0) in
+    let is : t ≡ rested t.done = ap (λ (o : Option BegunObject). let p : Progress = record { done = t.done; draft = o } in p) (none_is t.draft k.0) in
     let some : 1 ≤ length t.done = leb-true 1 (length t.done) k.1 in
     (is ∙ ap rested same, subst (λ l. 1 ≤ length l) same some)
 rested_at n t false e os h = absurd cc

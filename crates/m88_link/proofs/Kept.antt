@@ -16,7 +16,7 @@ use Rattle.m88_link.specs.declared.object.Section.{Section}
 use Rattle.m88_link.specs.declared.object.Symbol.{Symbol}
 use Rattle.m88_link.specs.declared.row.Row.TheVariants.{Begin, Head}
 use Rattle.m88_link.specs.declared.row.SectionHead.{SectionHead}
-use Rattle.m88_link.specs.Inside.Drafts.{Begun, Filled, Progress, head_step, headed, is_nil, may_stand, section_with, settled, takes_head}
+use Rattle.m88_link.specs.Inside.Drafts.{BegunObject, Filled, Progress, head_step, headed, is_nil, may_stand, section_with, with_section_settled, takes_head}
 use Rattle.m88_link.specs.ObjectRead.{HasRelocText, HasSectionText, HasSymbolText, HasText}
 use Rattle.m88_link.specs.Sound.{AreSections, IsOwnAddress, origin}
 use Rattle.m88_link.proofs.RowTexts.{IsHead, row_text}
@@ -38,14 +38,14 @@ pub record IsFillable (f : Filled) (n : ℕ) : Type 0 where
   pub whole : 1 ≤ f.missing → length f.bytes % 32 ≡ 0
 
 -- while its bytes come, nothing stands behind it
-pub record IsFilling (d : Begun) (f : Filled) : Type 0 where
+pub record IsFilling (d : BegunObject) (f : Filled) : Type 0 where
   pub fillable : IsFillable f (length d.sections)
   pub some : 1 ≤ f.missing
   pub symbols : d.symbols ≡ []
   pub relocs : d.relocs ≡ []
 
 -- an object whose end hasn't come
-pub record IsKept (d : Begun) : Type 0 where
+pub record IsKept (d : BegunObject) : Type 0 where
   pub name : IsName d.name
   pub order : AreInOrder d.sections
   pub sections : AllByRecursion HasSectionText d.sections
@@ -92,14 +92,14 @@ order_whole (t ∷ []) h k = absurd (omega arith)
 order_whole (t ∷ d ∷ others) h k = (k.0, k.1, All-from_recursion (λ s. IsOwnAddress s.place) others k.2)
 
 -- an object with nothing but sections
-abbrev pub bare : List ℕ → List Section → Option Filled → Begun
+abbrev pub bare : List ℕ → List Section → Option Filled → BegunObject
 bare name sections filling = record { name = name; sections = sections; filling = filling; symbols = []; relocs = [] }
 
-pub bare_is : (d : Begun) (filling : Option Filled) → d.filling ≡ filling → d.symbols ≡ [] → d.relocs ≡ [] → d ≡ bare d.name d.sections filling
+pub bare_is : (d : BegunObject) (filling : Option Filled) → d.filling ≡ filling → d.symbols ≡ [] → d.relocs ≡ [] → d ≡ bare d.name d.sections filling
 bare_is d filling e f g =
-    ap (λ (o : Option Filled). let b : Begun = record d { filling = o } in b) e
-    ∙ ap (λ (l : List Symbol). let b : Begun = record { name = d.name; sections = d.sections; filling = filling; symbols = l; relocs = d.relocs } in b) f
-    ∙ ap (λ (l : List Reloc). let b : Begun = record { name = d.name; sections = d.sections; filling = filling; symbols = []; relocs = l } in b) g
+    ap (λ (o : Option Filled). let b : BegunObject = record d { filling = o } in b) e
+    ∙ ap (λ (l : List Symbol). let b : BegunObject = record { name = d.name; sections = d.sections; filling = filling; symbols = l; relocs = d.relocs } in b) f
+    ∙ ap (λ (l : List Reloc). let b : BegunObject = record { name = d.name; sections = d.sections; filling = filling; symbols = []; relocs = l } in b) g
 
 -- what a draft of sections alone has written
 pub bare_rows : (name : List ℕ) (sections : List Section) (filling : Option Filled)
@@ -109,13 +109,13 @@ bare_rows name sections filling = ap (λ l. row_text (Begin name) ∷ (sections_
 -- what is settled is kept, and has written what the section has written
 module _ (name : List ℕ) (sections : List Section) (f : Filled) (named_so : IsName name) (order : AreInOrder sections)
     (texts : AllByRecursion HasSectionText sections) (h : IsFillable f (length sections)) where
-  abbrev whole_one : Begun
+  abbrev whole_one : BegunObject
   whole_one = bare name (sections ++ section_with f ∷ []) None
 
-  abbrev filled_one : Begun
+  abbrev filled_one : BegunObject
   filled_one = bare name sections (Some f)
 
-  abbrev Settled : Begun → Type 0
+  abbrev Settled : BegunObject → Type 0
   Settled e = IsKept e × (draft_rows e ≡ row_text (Begin name) ∷ (sections_rows sections ++ filled_rows f))
 
   whole_settled : f.missing ≡ 0 → Settled whole_one
@@ -158,11 +158,11 @@ module _ (name : List ℕ) (sections : List Section) (f : Filled) (named_so : Is
   by_missing true e = whole_settled (grind (arith, nat_tests))
   by_missing false e = filled_settled (grind (arith, nat_tests))
 
-  pub is_settled : Settled (settled (bare name sections None) f)
+  pub is_settled : Settled (with_section_settled (bare name sections None) f)
   is_settled = by_missing (f.missing == 0) refl
 
 -- a line that is taken goes behind those before it
-pub record Goes (d e : Begun) (line : List ℕ) : Type 0 where
+pub record Goes (d e : BegunObject) (line : List ℕ) : Type 0 where
   pub kept : IsKept e
   pub rows : draft_rows e ≡ draft_rows d ++ line ∷ []
 
@@ -190,7 +190,7 @@ headed_fillable h n k e = record {
 
 head_goes_bare : (name : List ℕ) (sections : List Section) (h : SectionHead) → IsKept (bare name sections None) → IsHead h
     → may_stand (length sections) h.place ≡ true
-    → Goes (bare name sections None) (settled (bare name sections None) (headed h)) (row_text (Head h))
+    → Goes (bare name sections None) (with_section_settled (bare name sections None) (headed h)) (row_text (Head h))
 head_goes_bare name sections h kept k next =
     let s = is_settled name sections (headed h) kept.name kept.order kept.sections (headed_fillable h (length sections) k next) in
     let len : 0 + h.len ≡ h.len = omega arith in
@@ -202,14 +202,14 @@ head_goes_bare name sections h kept k next =
           ∙ ap (λ l. l ++ row_text (Head h) ∷ []) (sym (bare_rows name sections None));
     }
 
-pub head_goes : (h : SectionHead) (d e : Begun) → IsKept d → IsHead h → head_step h d ≡ Some e → Goes d e (row_text (Head h))
+pub head_goes : (h : SectionHead) (d e : BegunObject) → IsKept d → IsHead h → head_step h d ≡ Some e → Goes d e (row_text (Head h))
 unfolding head_step
 head_goes h d e kept k step =
-    let t = if_some (takes_head d h) (settled d (headed h)) e step in
+    let t = if_some (takes_head d h) (with_section_settled d (headed h)) e step in
     let t1 = and_parts (is_none d.filling && is_nil d.symbols && is_nil d.relocs) (may_stand (length d.sections) h.place) t.0 in
     let t2 = and_parts (is_none d.filling && is_nil d.symbols) (is_nil d.relocs) t1.0 in
     let t3 = and_parts (is_none d.filling) (is_nil d.symbols) t2.0 in
     let is : d ≡ bare d.name d.sections None = bare_is d None (none_is d.filling t3.0) (bare_nil d.symbols t3.1) (bare_nil d.relocs t2.1) in
-    let P : Begun → Type 0 = λ b. Goes b (settled b (headed h)) (row_text (Head h)) in
+    let P : BegunObject → Type 0 = λ b. Goes b (with_section_settled b (headed h)) (row_text (Head h)) in
     let g : P d = subst P (sym is) (head_goes_bare d.name d.sections h (subst IsKept is kept) k t1.1) in
     subst (λ b. Goes d b (row_text (Head h))) t.1 g

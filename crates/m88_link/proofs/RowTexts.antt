@@ -15,7 +15,7 @@ use Rattle.m88_link.specs.declared.row.Row.TheVariants.{Begin, Head, Define, Pat
 use Rattle.m88_link.specs.declared.row.SectionHead.{SectionHead}
 use Rattle.m88_link.specs.ObjectRead.{HasRelocText, HasSymbolText}
 use Rattle.m88_link.specs.ObjectText.{kind_word, section_word}
-use Rattle.m88_link.specs.Inside.Rows.{at_of, first_word, head_of, hex8_word, keyword_of, kind_word_of, name_of, name_word, decimal_value, number_word, reloc_in, row_by, row_in, scope_word, section_word_of, symbol_in}
+use Rattle.m88_link.specs.Inside.Rows.{at_of, first_word, head_of, hex8_word, keyword_of, kind_word_of, name_written, name_word, decimal_value, number_word, reloc_in, row_by, row_in, scope_word, section_word_of, symbol_in}
 use Rattle.m88_link.specs.Sound.{origin}
 use Rattle.m88_base.proofs.Laws.{cut_found}
 use Rattle.m88_link.proofs.Spelling.{hex8_back, hex8_read, if_same, kind_back, kind_read, name_back, name_found, name_of-name, name_read, number_back, number_found, number_of-decimal, number_read, same_text, scope_back, scope_read, scope_text, section_back, section_read}
@@ -253,7 +253,7 @@ said_as text x r e h = subst (Says text) e h
 
 by_keyword : (k : Keyword) (rest : List ℕ) (r : Row) → row_by k rest ≡ Some r → Says (keyword_text k ++ 32 ∷ rest) r
 by_keyword word.Object rest r e =
-    mapped Begin (name_of rest) r e (λ name is same.
+    mapped Begin (name_written rest) r e (λ name is same.
     let k = name_found rest name is in
     said_as (codes "object" ++ 32 ∷ rest) (Begin name) r same (ap (λ (t : List ℕ). codes "object" ++ 32 ∷ t) k.0, k.1))
 by_keyword word.Text rest r e =

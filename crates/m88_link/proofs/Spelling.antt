@@ -16,7 +16,7 @@ use Rattle.m88_base.specs.declared.fixup.Kind.{Kind}
 use Rattle.m88_base.specs.declared.fixup.Kind.TheVariants.{Hi16, Lo16, Pc26, Pc16, Abs32}
 use Rattle.m88_base.proofs.Laws.{cut_found, decimal_found, decimal_needed, decimal_told, hex8-hex8_of, hex8_of-hex8, is_hex8-hex8, is_other, lacks_by, split_first}
 use Rattle.m88_link.specs.ObjectText.{kind_word, section_word}
-use Rattle.m88_link.specs.Inside.Rows.{◌>>=◌, first_word, hex8_word, is_name_text, field_kind_of, kind_word_of, name_of, name_word, decimal_value, number_word, scope_of, scope_word, symbol_section_of, section_word_of, word_by}
+use Rattle.m88_link.specs.Inside.Rows.{◌>>=◌, first_word, hex8_word, is_name_text, field_kind_of, kind_word_of, name_written, name_word, decimal_value, number_word, scope_of, scope_word, symbol_section_of, section_word_of, word_by}
 use Rattle.m88_link.proofs.Divided.{is_named, name_is}
 use Rattle.m88_base.specs.Cut.{lacks}
 
@@ -44,10 +44,10 @@ pub name_is_word : (text : List ℕ) → IsName text → IsWord text
 name_is_word text h =
     word_by_test continues_name (λ b e. grind (arith, nat_tests)) (λ b e. grind (arith, nat_tests)) text (named_all text (name_is text h))
 
-pub name_of-name : (text : List ℕ) → IsName text → name_of text ≡ Some text
+pub name_of-name : (text : List ℕ) → IsName text → name_written text ≡ Some text
 name_of-name text h = ap (λ (t : Bool). if t then Some text else None) (name_is text h)
 
-pub name_found : (text name : List ℕ) → name_of text ≡ Some name → (text ≡ name) × IsName name
+pub name_found : (text name : List ℕ) → name_written text ≡ Some name → (text ≡ name) × IsName name
 name_found text name e = by_test (is_name_text text) refl e
   where
     by_test : (t : Bool) → is_name_text text ≡ t → (if t then Some text else None) ≡ Some name → (text ≡ name) × IsName name
@@ -123,7 +123,7 @@ word_back of text rest a e =
 module _ (rest : List ℕ) where
   pub name_read : (name : List ℕ) → IsName name → name_word (name ++ 32 ∷ rest) ≡ Some (name, rest)
   unfolding name_word
-  name_read name h = word_read name_of name rest name (name_is_word name h).0 (name_of-name name h)
+  name_read name h = word_read name_written name rest name (name_is_word name h).0 (name_of-name name h)
 
   pub hex8_read : (n : ℕ) → n < 2 ^ 32 → hex8_word (hex8 n ++ 32 ∷ rest) ≡ Some (n, rest)
   unfolding hex8_word
@@ -137,7 +137,7 @@ module _ (rest : List ℕ) where
 pub name_back : (text name rest : List ℕ) → name_word text ≡ Some (name, rest) → (text ≡ name ++ 32 ∷ rest) × IsName name
 unfolding name_word
 name_back text name rest e =
-    let k = word_back name_of text rest name e in
+    let k = word_back name_written text rest name e in
     let n = name_found k.word name k.says in
     (k.text_is ∙ ap (λ l. l ++ 32 ∷ rest) n.0, n.1)
 

@@ -12,27 +12,27 @@ use Rattle.m88_base.proofs.Laws.{option_or-none, option_or_assoc}
 use Rattle.m88_link.specs.declared.object.Definition.{Definition}
 use Rattle.m88_link.specs.declared.object.Symbol.{Symbol}
 use Rattle.m88_link.specs.Symbols.{joined, repetition, repeated_after, first_repeated, symbol_of}
-use Rattle.m88_link.specs.Inside.Tables.{symbols_in}
+use Rattle.m88_link.specs.Inside.Tables.{entry_symbols}
 
 -- what is found under a name is the first symbol of that name
-pub found : (name : List ℕ) (es : List (List ℕ × Definition)) → option_map (joined name) (lookup (bytes_eq name) es) ≡ symbol_of (symbols_in es) name
+pub found : (name : List ℕ) (es : List (List ℕ × Definition)) → option_map (joined name) (lookup (bytes_eq name) es) ≡ symbol_of (entry_symbols es) name
 found name [] = refl
 found name (e ∷ es) = by (bytes_eq name e.0) refl (found name es)
   where
-    by : (b : Bool) → bytes_eq name e.0 ≡ b → option_map (joined name) (lookup (bytes_eq name) es) ≡ symbol_of (symbols_in es) name
-        → option_map (joined name) (cond b (Some e.1) (lookup (bytes_eq name) es)) ≡ cond b (Some (joined e.0 e.1)) (symbol_of (symbols_in es) name)
+    by : (b : Bool) → bytes_eq name e.0 ≡ b → option_map (joined name) (lookup (bytes_eq name) es) ≡ symbol_of (entry_symbols es) name
+        → option_map (joined name) (cond b (Some e.1) (lookup (bytes_eq name) es)) ≡ cond b (Some (joined e.0 e.1)) (symbol_of (entry_symbols es) name)
     by true same rest = ap (λ n. Some (joined n e.1)) ((bytes_eq-Decides name e.0).0 same)
     by false other rest = rest
 
 -- a definition of a new name goes last
-pub added : (name : List ℕ) (d : Definition) (es : List (List ℕ × Definition)) → symbol_of (symbols_in es) name ≡ None
-    → symbols_in (insert_entry bytes_eq es name d) ≡ symbols_in es ++ joined name d ∷ []
+pub added : (name : List ℕ) (d : Definition) (es : List (List ℕ × Definition)) → symbol_of (entry_symbols es) name ≡ None
+    → entry_symbols (insert_entry bytes_eq es name d) ≡ entry_symbols es ++ joined name d ∷ []
 added name d [] absent = refl
 added name d (e ∷ es) absent = by (bytes_eq name e.0) absent (added name d es)
   where
-    by : (b : Bool) → cond b (Some (joined e.0 e.1)) (symbol_of (symbols_in es) name) ≡ None
-        → (symbol_of (symbols_in es) name ≡ None → symbols_in (insert_entry bytes_eq es name d) ≡ symbols_in es ++ joined name d ∷ [])
-        → symbols_in (if b then (e.0, d) ∷ es else e ∷ insert_entry bytes_eq es name d) ≡ symbols_in (e ∷ es) ++ joined name d ∷ []
+    by : (b : Bool) → cond b (Some (joined e.0 e.1)) (symbol_of (entry_symbols es) name) ≡ None
+        → (symbol_of (entry_symbols es) name ≡ None → entry_symbols (insert_entry bytes_eq es name d) ≡ entry_symbols es ++ joined name d ∷ [])
+        → entry_symbols (if b then (e.0, d) ∷ es else e ∷ insert_entry bytes_eq es name d) ≡ entry_symbols (e ∷ es) ++ joined name d ∷ []
     by true h rest = absurd (some_none h)
       where
         some_none : Some (joined e.0 e.1) ≡ None → ⊥
@@ -84,15 +84,15 @@ none_yet (n ∷ ns) = (refl, none_yet ns)
 
 -- definitions of names that are apart, and that none of the symbols before them has, repeat none
 once_after : (before : List Symbol) (es : List (List ℕ × Definition)) → AllByRecursion (λ n. symbol_of before n ≡ None) (keys_of es)
-    → IsDistinct bytes_eq (keys_of es) → repeated_after before (symbols_in es) ≡ None
+    → IsDistinct bytes_eq (keys_of es) → repeated_after before (entry_symbols es) ≡ None
 once_after before [] new distinct = refl
 once_after before (e ∷ es) new distinct =
     let x = joined e.0 e.1 in
     let alone : repetition before x ≡ None = ap (λ o. option_map (λ f. record { symbol = x; first = f.line }) o) new.0 in
-    ap (λ o. option_or o (repeated_after (before ++ x ∷ []) (symbols_in es))) alone
+    ap (λ o. option_or o (repeated_after (before ++ x ∷ []) (entry_symbols es))) alone
     ∙ once_after (before ++ x ∷ []) es (still_new before x (keys_of es) new.1 (IsDistinct-head bytes_eq e.0 (keys_of es) distinct))
     (IsDistinct-tail bytes_eq e.0 (keys_of es) distinct)
 
 -- no symbol of a map's entries repeats a name: the keys of the map are distinct
-pub once : (es : List (List ℕ × Definition)) → IsDistinct bytes_eq (keys_of es) → first_repeated (symbols_in es) ≡ None
+pub once : (es : List (List ℕ × Definition)) → IsDistinct bytes_eq (keys_of es) → first_repeated (entry_symbols es) ≡ None
 once es distinct = once_after [] es (none_yet (keys_of es)) distinct

@@ -11,7 +11,7 @@ use Rattle.m88_link.specs.declared.object.Reloc.{Reloc}
 use Rattle.m88_link.specs.declared.object.Section.{Section}
 use Rattle.m88_link.specs.declared.object.Symbol.{Symbol}
 use Rattle.m88_link.specs.declared.row.Row.TheVariants.{Begin, Head, Define, Patch, End}
-use Rattle.m88_link.specs.Inside.Drafts.{Begun, Filled, Progress}
+use Rattle.m88_link.specs.Inside.Drafts.{BegunObject, Filled, Progress}
 use Rattle.m88_link.proofs.RowTexts.{row_text}
 
 -- a line with bytes
@@ -57,11 +57,11 @@ abbrev pub objects_rows : List Object → List (List ℕ)
 objects_rows objects = flat_map object_rows objects
 
 -- an object whose end hasn't come
-abbrev pub draft_rows : Begun → List (List ℕ)
+abbrev pub draft_rows : BegunObject → List (List ℕ)
 draft_rows d =
     row_text (Begin d.name) ∷ (sections_rows d.sections ++ (filling_rows d.filling ++ (symbol_rows d.symbols ++ reloc_rows d.relocs)))
 
-abbrev pub open_rows : Option Begun → List (List ℕ)
+abbrev pub open_rows : Option BegunObject → List (List ℕ)
 open_rows None = []
 open_rows (Some d) = draft_rows d
 

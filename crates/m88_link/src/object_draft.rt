@@ -1,6 +1,6 @@
 //! An object of which not all lines came.
 ghost use Rattle.std.specs.Prelude.{◌≡◌, ◌*◌, OnOk};
-ghost use Rattle.m88_link.specs.Inside.Drafts.{TakesOrRefuses, bytes_step, define_step, head_step, headed, may_stand, is_whole, more_bytes, only_named, object_with, patch_step, section_with, settled, takes_head};
+ghost use Rattle.m88_link.specs.Inside.Drafts.{TakesOrRefuses, bytes_step, define_step, head_step, headed, may_stand, is_whole, more_bytes, only_named, object_with, patch_step, section_with, with_section_settled, takes_head};
 
 use crate::object::{Object, Place, Reloc, Section, Symbol};
 use crate::row::SectionHead;
@@ -44,9 +44,9 @@ pub struct Draft {
 }
 
 impl Model for Draft {
-    ghost use Rattle.m88_link.specs.Inside.Drafts.{Begun};
+    ghost use Rattle.m88_link.specs.Inside.Drafts.{BegunObject};
 
-    ghost Value = { Begun };
+    ghost Value = { BegunObject };
 
     ghost view = { λ d. record {
       name = d.name;
@@ -137,7 +137,7 @@ impl Draft {
 
     /// One section more, whole or to be filled.
     fn settle(&mut self, filling: Filling) -> Result<(), AllocError>
-        ensures { OnOk result (self.new ≡ settled self.old filling) }
+        ensures { OnOk result (self.new ≡ with_section_settled self.old filling) }
     {
         if filling.missing == 0 {
             self.sections.push(filling.into_section())?;

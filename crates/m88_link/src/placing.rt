@@ -7,7 +7,7 @@ ghost use Rattle.m88_base.specs.Placed.{byte_among, count_among};
 ghost use Rattle.m88_link.specs.Bases.{base_at};
 ghost use Rattle.m88_link.specs.Inside.Carried.{AreAlone, HasWord, unpatched, carried, patched_spot};
 ghost use Rattle.m88_link.specs.Faults.{memory_fault};
-ghost use Rattle.m88_link.specs.Inside.Lent.{bytes_in};
+ghost use Rattle.m88_link.specs.Inside.Lent.{own_or_lent};
 ghost use Rattle.m88_link.specs.Inside.Resolved.{Checks};
 ghost use Rattle.m88_link.specs.Layout.{references_of, spots_of, value_of_name};
 ghost use Rattle.m88_link.specs.Refusal.{too_far, undefined};
@@ -37,18 +37,18 @@ pub struct Spot<'a> {
 impl<'a> Model for Spot<'a> {
     ghost use Rattle.std.specs.Prelude.{◌+◌, ◌^◌, ◌≤◌, length};
     ghost use Rattle.m88_base.specs.Placed.{Placed};
-    ghost use Rattle.m88_link.specs.Inside.Lent.{bytes_in};
+    ghost use Rattle.m88_link.specs.Inside.Lent.{own_or_lent};
 
     ghost Value = { Placed };
 
-    ghost view = { λ spot. record { at = spot.at; bytes = bytes_in spot.own.items spot.lent.now } };
+    ghost view = { λ spot. record { at = spot.at; bytes = own_or_lent spot.own.items spot.lent.now } };
 
-    ghost invariant = { λ spot. spot.at + length (bytes_in spot.own.items spot.lent.now) ≤ 2 ^ 32 };
+    ghost invariant = { λ spot. spot.at + length (own_or_lent spot.own.items spot.lent.now) ≤ 2 ^ 32 };
 }
 
 /// Copies bytes that are lent, where there are none of one's own yet.
 fn copied(alloc: Global, own: &mut Vec<u8>, lent: &[u8]) -> Result<(), AllocError>
-    ensures ok { OnOk result (own.new.items ≡ bytes_in own.old.items lent.now) }
+    ensures ok { OnOk result (own.new.items ≡ own_or_lent own.old.items lent.now) }
     ensures err { OnErr result (own.new.items ≡ own.old.items) }
 {
     if own.is_empty() {

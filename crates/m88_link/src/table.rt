@@ -18,11 +18,11 @@ pub struct SymbolTable {
 impl Model for SymbolTable {
     ghost use Rattle.std.specs.Prelude.{List};
     ghost use Rattle.m88_link.specs.declared.object.Symbol.{Symbol as Defined};
-    ghost use Rattle.m88_link.specs.Inside.Tables.{symbols_in};
+    ghost use Rattle.m88_link.specs.Inside.Tables.{entry_symbols};
 
     ghost Value = { List Defined };
 
-    ghost view = { λ table. symbols_in table.symbols.entries };
+    ghost view = { λ table. entry_symbols table.symbols.entries };
 }
 
 impl SymbolTable {

@@ -1,12 +1,12 @@
 //! Words of a line of an object text, each read up to its blank.
 ghost use Rattle.std.specs.Prelude.{◌≡◌, None, Some, MatchOption};
-ghost use Rattle.m88_link.specs.Inside.Rows.{hex8_word, field_kind_of, kind_word_of, name_of, name_word, decimal_value, number_word, scope_of, scope_word, symbol_section_of, section_word_of};
+ghost use Rattle.m88_link.specs.Inside.Rows.{hex8_word, field_kind_of, kind_word_of, name_written, name_word, decimal_value, number_word, scope_of, scope_word, symbol_section_of, section_word_of};
 
 use m88_base::{Kind, Name, decimal_in, hex8_of, split_at_byte};
 
 /// The name that the bytes are.
 pub fn name_of(text: &[u8]) -> Option<Name>
-    ensures { result ≡ name_of text.now }
+    ensures { result ≡ name_written text.now }
 {
     Name::new(text)
 }

@@ -27,7 +27,7 @@ pub record Filled : Type 0 where
   pub missing : ℕ
 
 -- an object whose end hasn't come: its whole sections, the one that is filled, its symbols and its relocations
-pub record Begun : Type 0 where
+pub record BegunObject : Type 0 where
   pub name : List ℕ
   pub sections : List Section
   pub filling : Option Filled
@@ -37,14 +37,14 @@ pub record Begun : Type 0 where
 -- the objects that are whole, and the one whose end hasn't come
 pub record Progress : Type 0 where
   pub done : List Object
-  pub draft : Option Begun
+  pub draft : Option BegunObject
 
 -- before the first line
 abbrev pub nothing_read : Progress
 nothing_read = record { done = []; draft = None }
 
 -- an object of which only the name came
-abbrev pub only_named : List ℕ → Begun
+abbrev pub only_named : List ℕ → BegunObject
 only_named name = record { name = name; sections = []; filling = None; symbols = []; relocs = [] }
 
 -- the list is empty
@@ -60,8 +60,8 @@ abbrev pub section_with : Filled → Section
 section_with f = record { place = f.place; bytes = f.bytes; line = f.line }
 
 -- an object with one more section, whole or to be filled
-abbrev pub settled : Begun → Filled → Begun
-settled d f =
+abbrev pub with_section_settled : BegunObject → Filled → BegunObject
+with_section_settled d f =
     if f.missing == 0 then record d { sections = d.sections ++ section_with f ∷ []; filling = None }
     else record d { filling = Some f }
 
@@ -72,16 +72,16 @@ may_stand n DataSection = n == 1
 may_stand n (At a) = nat_le 2 n
 
 -- a section may begin
-abbrev pub takes_head : Begun → SectionHead → Bool
+abbrev pub takes_head : BegunObject → SectionHead → Bool
 takes_head d h = is_none d.filling && is_nil d.symbols && is_nil d.relocs && may_stand (length d.sections) h.place
 
 -- text and data are there, and no section has bytes to come
-abbrev pub is_whole : Begun → Bool
+abbrev pub is_whole : BegunObject → Bool
 is_whole d = is_none d.filling && nat_le 2 (length d.sections)
 
 -- a section begins
-unfoldable pub head_step : SectionHead → Begun → Option Begun
-head_step h d = if takes_head d h then Some (settled d (headed h)) else None
+unfoldable pub head_step : SectionHead → BegunObject → Option BegunObject
+head_step h d = if takes_head d h then Some (with_section_settled d (headed h)) else None
 
 -- the bytes of one line more: as many as a line has, or the fewer that are missing
 unfoldable pub more_bytes : List ℕ → Filled → Option Filled
@@ -92,23 +92,23 @@ more_bytes digits f =
     else None
 
 -- bytes come
-unfoldable pub bytes_step : List ℕ → Begun → Option Begun
-bytes_step digits d = d.filling >>= λ f. (more_bytes digits f >>= λ g. Some (settled d g))
+unfoldable pub bytes_step : List ℕ → BegunObject → Option BegunObject
+bytes_step digits d = d.filling >>= λ f. (more_bytes digits f >>= λ g. Some (with_section_settled d g))
 
 -- a symbol comes
-unfoldable pub define_step : Symbol → Begun → Option Begun
+unfoldable pub define_step : Symbol → BegunObject → Option BegunObject
 define_step s d = if is_whole d && is_nil d.relocs then Some (record d { symbols = d.symbols ++ s ∷ [] }) else None
 
 -- a relocation comes
-unfoldable pub patch_step : Reloc → Begun → Option Begun
+unfoldable pub patch_step : Reloc → BegunObject → Option BegunObject
 patch_step r d = if is_whole d then Some (record d { relocs = d.relocs ++ r ∷ [] }) else None
 
 -- the object that the lines so far make
-abbrev pub object_with : Begun → Object
+abbrev pub object_with : BegunObject → Object
 object_with d = record { name = d.name; sections = d.sections; symbols = d.symbols; relocs = d.relocs }
 
 -- the object goes on, where there is one
-abbrev pub within : Progress → (Begun → Option Begun) → Option Progress
+abbrev pub within : Progress → (BegunObject → Option BegunObject) → Option Progress
 within s f = s.draft >>= λ d. (f d >>= λ e. Some (record { done = s.done; draft = Some e }))
 
 -- an object begins, where none has begun

@@ -2,6 +2,6 @@
 use Rattle.std.specs.Prelude.{ℕ, List, [], ◌∷◌}
 
 -- one's own where there are some, else those that are lent
-abbrev pub bytes_in : List ℕ → List ℕ → List ℕ
-bytes_in [] lent = lent
-bytes_in (b ∷ own) lent = b ∷ own
+abbrev pub own_or_lent : List ℕ → List ℕ → List ℕ
+own_or_lent [] lent = lent
+own_or_lent (b ∷ own) lent = b ∷ own

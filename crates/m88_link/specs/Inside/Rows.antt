@@ -34,8 +34,8 @@ is_name_text [] = false
 is_name_text (b ∷ bs) = begins_name b && list_all continues_name bs && nat_lt (length bs) 64
 
 -- the name that the bytes are
-abbrev pub name_of : List ℕ → Option (List ℕ)
-name_of text = if is_name_text text then Some text else None
+abbrev pub name_written : List ℕ → Option (List ℕ)
+name_written text = if is_name_text text then Some text else None
 
 -- the number below 2^32 that decimal digits write without a needless zero
 abbrev pub decimal_value : List ℕ → Option ℕ
@@ -47,7 +47,7 @@ word_by of text = first_word text >>= λ p. of p.0 >>= λ a. Some (a, p.1)
 
 -- a name
 unfoldable pub name_word : List ℕ → Option (List ℕ × List ℕ)
-name_word text = word_by name_of text
+name_word text = word_by name_written text
 
 -- a number of eight digits
 unfoldable pub hex8_word : List ℕ → Option (ℕ × List ℕ)
@@ -144,7 +144,7 @@ keyword_of text =
 
 -- what stands behind the first word, by that word
 abbrev pub row_by : Keyword → List ℕ → Option Row
-row_by word.Object rest = option_map Begin (name_of rest)
+row_by word.Object rest = option_map Begin (name_written rest)
 row_by word.Text rest = option_map Head (head_of Text rest)
 row_by word.Data rest = option_map Head (head_of DataSection rest)
 row_by word.At rest = option_map Head (at_of rest)

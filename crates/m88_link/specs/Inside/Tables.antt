@@ -5,5 +5,5 @@ use Rattle.m88_link.specs.declared.object.Symbol.{Symbol}
 use Rattle.m88_link.specs.Symbols.{joined}
 
 -- the symbols of a map's entries
-abbrev pub symbols_in : List (List ℕ × Definition) → List Symbol
-symbols_in entries = map (λ e. joined e.0 e.1) entries
+abbrev pub entry_symbols : List (List ℕ × Definition) → List Symbol
+entry_symbols entries = map (λ e. joined e.0 e.1) entries
