@@ -474,16 +474,20 @@ answered_note p named limit m old new datum values says are filled traced =
 pub faulted_note : (p : Program) (named : ℕ → Bool) (limit : ℕ) (m : Moment) (old new : Sheet) (was : Record)
     (due : Data) →
     HasPast p limit m →
+    DoneWereMade p m →
     happened.Faulted was ≡ said_at p named limit Answer m →
     AreData (three_of due) (pending_at p m.retired m.done) (bus_at p m.retired m.done) →
     HasFilledAll due old new →
     IsTraced p m old →
     IsTraced p (after_letter p named limit Answer m) new
 unfolding said_at
-faulted_note p named limit m old new was due past says are filled traced =
+faulted_note p named limit m old new was due past made says are filled traced =
     let choice = said_faulted (choice_at p named limit Answer m) (record_at p named limit m) was says in
     let few = few_wait p limit m old past traced in
-    traced_fault p m (after_letter p named limit Answer m) old new (told_by p named limit Answer m faults choice)
+    let left = length-drop m.done (transactions p m.retired) in
+    let all : m.done + length (pending_at p m.retired m.done) ≡ transaction_count p m.retired = omega (arith, left, made) in
+    traced_fault p m (after_letter p named limit Answer m) old new
+    (told_by p named limit Answer m faults choice ∙ ap (λ (done : ℕ). (m.retired, done, m.ended)) all)
     (λ after. filled.text (bus_at p m.retired m.done) after
     (subst (λ (xs : List Access). AreData (three_of due) xs (bus_at p m.retired m.done)) (sym traced.waiting) are) few)
     (filled.waiting few) traced

@@ -16,7 +16,7 @@ returns-in-Answered-clause-traced c = λ p named limit m past made are says trac
 
 pub returns-in-Faulted-clause-traced : goal.returns-in-Faulted-clause-traced
 returns-in-Faulted-clause-traced c = λ p named limit m past made are says traced.
-    faulted_note p named limit m c.args.self.now c.fill_all.new.self c.in-Faulted.field-0 c.args.due past
+    faulted_note p named limit m c.args.self.now c.fill_all.new.self c.in-Faulted.field-0 c.args.due past made
     (sym c.in-Faulted.is ∙ says)
     (are.all (fault_chosen p named limit m c.in-Faulted.field-0 (sym c.in-Faulted.is ∙ says)))
     c.fill_all.ensures traced
