@@ -1,14 +1,12 @@
 -- The whole text of a listing, and what a reply says of a source that has nothing left.
-use Rattle.std.proofs.Common.{◌≡◌, ℕ, ◌<◌, ◌≤◌, ◌+◌, List, [], ◌++◌, Option, Some, None, Bool, true, false, inl, inr, Result, Ok, Err, length, length-append, take, drop, ap, refl, sym, ◌∙◌, subst, arith}
-use Rattle.std.specs.Prelude.{MatchBool, OnErr, codes, is_err}
-use Rattle.std.specs.Io.KnownBytes.{Consumes}
+use Rattle.std.proofs.Common.{◌≡◌, ℕ, ◌<◌, ◌≤◌, ◌+◌, List, ◌++◌, Option, Some, Bool, true, false, inl, inr, IfSome, length, length-append, take, drop, ap, refl, sym, ◌∙◌, subst, arith}
+use Rattle.std.specs.Prelude.{MatchBool, codes}
+use Rattle.std.proofs.KnownBytes.{Consumes-whole}
 use Rattle.std.proofs.lemmas.Bool.{ltb-false}
-use Rattle.std.proofs.lemmas.List.{append-nil, length-take-le}
 use Rattle.m88_base.specs.Image.{ProgramImage, byte_at, most_bytes}
 use Rattle.m88_base.specs.Lines.{line_end, lines_of, text_of_lines}
 use Rattle.m88_base.specs.Outside.{GivesAll}
 use Rattle.m88_base.specs.declared.reply.Reply.{Reply}
-use Rattle.m88_base.proofs.Laws.{same_input}
 use Rattle.m88_base.specs.Refusal.{Refusal}
 use Rattle.m88_base.specs.Refused.{refused_line}
 use Rattle.m88_parse.specs.Language.Units.{IsUnit}
@@ -76,11 +74,12 @@ refusal_some source r =
       length-append ((a ++ (mark ++ line_end)) ++ told) (bare_text (drop r.line (numbered_lines source))),
     )
 
--- a reply to what a source gave
-pub reply_whole : (before after : Option (List ℕ)) (bytes : List ℕ) (reply : Reply) → before ≡ Some bytes → after ≡ Some []
+-- a reply to what a source gave is one to what it had
+pub reply_given : (before after : Option (List ℕ)) (bytes : List ℕ) (reply : Reply) → before ≡ Some bytes
     → (given : List ℕ) × GivesAll before after given × ListsAs given reply → ListsAs bytes reply
-reply_whole before after bytes reply had left ok =
-    subst (λ b. ListsAs b reply) (same_input before after bytes ok.0 had left ok.1.0) ok.2
+reply_given before after bytes reply had ok =
+    subst (λ left. IfSome left (λ source. ListsAs source reply)) had
+    (Consumes-whole before after ok.0 (λ source. ListsAs source reply) ok.1.0 ok.1.1 ok.2)
 
 -- the reply's text lists the source
 by_accepted : (accepted : Bool) (source text : List ℕ) → MatchBool accepted (ListsAccepted source text) (ListsRefused source text) → Lists source text

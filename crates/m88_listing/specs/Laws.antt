@@ -4,11 +4,11 @@ use Rattle.std.specs.Option.{option_map_or}
 use Rattle.m88_base.specs.Image.{ProgramImage, byte_at}
 use Rattle.m88_base.specs.Lines.{lines_of}
 use Rattle.m88_base.specs.Placed.{Placed, byte_in}
+use Rattle.m88_base.specs.Reading.{most_input}
 use Rattle.m88_parse.specs.Language.Units.{IsUnit}
 use Rattle.m88_parse.specs.declared.unit.Unit.{Unit as Source}
 use Rattle.m88_asm.specs.Accepted.{IsAcceptedUnit}
 use Rattle.m88_asm.specs.Images.{IsUnitImage}
-use Rattle.m88_listing.specs.Calls.{most_input}
 use Rattle.m88_listing.specs.Columns.{before_source, blank}
 use Rattle.m88_listing.specs.Rows.{Row, numbered_lines, row_on, rows_of_unit, source_lines}
 

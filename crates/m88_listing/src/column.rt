@@ -7,7 +7,8 @@ use itoa::write_digits;
 use std::alloc::AllocError;
 use std::marker::Model;
 
-/// The columns of a line that gives no bytes, by its number: those of an empty line are all of it.
+/// The columns of a line that gives no bytes, by its number. `alone` is the whole line of an empty one, with its end;
+/// `head` stands before any other.
 #[derive(Drop)]
 pub(crate) struct Column {
     number: u64,

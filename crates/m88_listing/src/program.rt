@@ -83,7 +83,7 @@ pub fn m88list<S: Source, K: Sink>(
     // With every other answer nothing is written.
     ensures unwritten { WritesNothing result → sink.new ≡ sink.old }
 
-    // A source is accepted or refused for one reason, never both, and one text lists it.
+    // A source is accepted, or refused for one reason, never both; and no two texts list it.
     ensures one_verdict { (bytes : List ℕ)
         → HasOneFaultUnless (IsProgramSource bytes) (IsRefusedProgram 0 bytes) }
     ensures one_text { (bytes a b : List ℕ) → Lists bytes a → Lists bytes b → a ≡ b }

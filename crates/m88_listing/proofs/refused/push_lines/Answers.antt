@@ -23,7 +23,8 @@ loop-column-preserved c =
 pub returns-then-is_empty : goal.returns-then-is_empty
 returns-then-is_empty c =
     let source = c.args.source.now in
-    let none = no_lines source (omega (arith, c.is_empty.ensures, c.if-is_empty.true)) in
+    let empty : length source ≡ 0 = grind (arith, common_steps) in
+    let none = no_lines source empty in
     record {
       text = bare_done c.args.text.now.items _ c.args.count c.args.first (lines_of source) none refl;
       rest = none_left 0 c.args.count (lines_of source) (lines_of source) none refl (omega arith);
