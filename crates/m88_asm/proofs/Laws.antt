@@ -18,12 +18,11 @@ pub use Rattle.m88_asm.proofs.Composing.{all_stood, placement, same_base}
 pub use Rattle.m88_asm.proofs.UnitSound.{modules_sound}
 pub use Rattle.m88_asm.proofs.ObjectTexts.{objects_have_text}
 pub use Rattle.m88_asm.proofs.Layouts.{one_text}
--- Modules: each symbol of an accepted unit can be replaced, statements that are all formed are formed one by one, and
--- what holds of the places of sections holds of those that a head puts there.
-pub use Rattle.m88_asm.proofs.Composing.{CanFill, EachBased, formed, under_head}
+-- Modules: each symbol of an accepted unit can be replaced, and statements that are all formed are formed one by one.
+pub use Rattle.m88_asm.proofs.Composing.{CanFill, EachBased, formed}
 pub use Rattle.m88_asm.proofs.Reaching.{each_fills}
--- a statement has as many bytes as are counted, filled in or waiting
-pub use Rattle.m88_asm.proofs.Relocating.{AllFormed, length-filled_bytes, length-waiting_bytes}
+-- a statement has as many bytes filled in as are counted
+pub use Rattle.m88_asm.proofs.Relocating.{AllFormed, length-filled_bytes}
 -- statements without a fault: the first has none and the others have none
 pub use Rattle.m88_asm.proofs.Sounding.{first_parts}
 -- as of any two options neither is there, where their first is none

@@ -8,10 +8,10 @@
 #![tactic(auto)]
 
 mod board;
+mod book;
 mod parts;
 
 // programs that aren't running
-mod book;
 mod context;
 
 // along the letters of a run

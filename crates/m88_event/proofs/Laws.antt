@@ -1,7 +1,7 @@
 -- The laws of events and runs that proofs above cite, by their subject.
 
 -- Letters: a text spells one schedule at most, of any letters that are each spelled by a byte, as those of one program.
-pub use Rattle.m88_event.proofs.Letters.{AreSpelled, letters_within, own_has, own_there, spelled, spells}
+pub use Rattle.m88_event.proofs.Letters.{AreSpelled, own_has, own_there, spelled, spells}
 -- Outcomes: a run comes to one at most, and a condition holds for the first time at one time at most.
 pub use Rattle.m88_event.proofs.Over.{one_first, one_outcome}
 -- an outcome and the end of a run are seen of what a board has of its moment

@@ -4,7 +4,7 @@ use Rattle.std.proofs.Common.{refl, sym, ap, ap₂, subst, arith, inl, inr, ◌�
 use Rattle.std.proofs.lemmas.Bool.Decides.{nat_tests}
 use Rattle.std.proofs.lemmas.List.Elements.{All-cons, All-head, All-nil, All-tail}
 use Rattle.std.proofs.lemmas.Option.{slice_get_past}
-use Rattle.m88_event.specs.Letters.{AreLetters, AreLettersIn, HasLetters, IsScheduleOf, in_turn, is_letter, letter_at, letter_byte, letter_of, most_letters}
+use Rattle.m88_event.specs.Letters.{AreLetters, AreLettersIn, HasLetters, IsScheduleOf, in_turn, is_letter, letter_at, letter_byte, letter_of}
 use Rattle.m88_event.specs.declared.letter.Letter.{Letter}
 use Rattle.m88_event.specs.declared.letter.Letter.TheVariants.{Issue, Answer, Evict}
 
@@ -72,14 +72,6 @@ spells others to_byte to_letter are text letters (inr in_text) =
     let there : HasLetters others text = subst (HasLetters others) (sym in_text.0)
     (omega (arith, kept, some), omega (arith, kept, most), all_letters others to_byte to_letter are letters) in
     (text, inr (refl, there), ap (map to_letter) in_text.0 ∙ back others to_byte to_letter are letters)
-
--- each of the letters in a text is one, and they aren't too many
-pub letters_within : (others text bytes : List ℕ) → AreLettersIn others text bytes →
-    AreLetters others bytes × (length bytes ≤ most_letters)
-letters_within others text bytes (inl dash) =
-    (subst (AreLetters others) (sym dash.1) (All-nil (λ b. is_letter others b ≡ true)), let none = ap length dash.1 in omega (arith, none))
-letters_within others text bytes (inr in_text) =
-    (subst (AreLetters others) (sym in_text.0) in_text.1.2, let long = ap length in_text.0 in let most = in_text.1.1 in omega (arith, long, most))
 
 -- the letters of one program
 byte_there : (byte : ℕ) (i e r : Bool) → (byte == 0x69) ≡ i → (byte == 0x65) ≡ e → (byte == 0x72) ≡ r → (i || (e || r)) ≡ true →

@@ -8,9 +8,6 @@ pub use Rattle.m88_link.proofs.OneText.{one_verdict as one_text_verdict}
 pub use Rattle.m88_link.proofs.Judged.{written_read}
 -- Sizes: the layout of sound objects is too large where their bytes are too many.
 pub use Rattle.m88_link.proofs.Extents.{too_large_is}
--- the sections of one number have at most as many bytes as an image may have, where all have, and the text of one more
--- object ends behind it
-pub use Rattle.m88_link.proofs.Stood.{sizes_fit, text_end_more}
 -- Where sound objects stand: each is sound there, and where their sections are disjoint no address has bytes of two.
 pub use Rattle.m88_link.proofs.Rooms.{all_sound, alone_is}
 -- runs that stand apart have no address twice, and such runs with the same bytes have as many

@@ -27,7 +27,7 @@ pub(crate) struct PageMarks {
     gaps: Gaps,
 }
 
-/// The places of the words that lack a bit.
+/// The places of the words that may lack a bit.
 #[derive(Drop, Debug)]
 pub(crate) struct Gaps {
     pub noted: Vec<u32>,

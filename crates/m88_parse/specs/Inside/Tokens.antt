@@ -136,7 +136,7 @@ front (b ∷ bs) =
 -- a token more in front, if there is one
 abbrev pub prepend : Option TokenValue → ℕ → List ℕ → Result (List Piece) ParseFault → Result (List Piece) ParseFault
 prepend None col text rest = rest
-prepend (Some meaning) col text (Ok pieces_from) = Ok (record { text = text; col = col; says = meaning } ∷ pieces_from)
+prepend (Some meaning) col text (Ok pieces) = Ok (record { text = text; col = col; says = meaning } ∷ pieces)
 prepend (Some meaning) col text (Err fault) = Err fault
 
 -- a flaw as a fault of its line
