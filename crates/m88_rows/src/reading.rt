@@ -3,7 +3,7 @@
 use crate::row::{Command, Place, Row, Text, Variant};
 use crate::status::status_of;
 use anyhow::{Result, bail};
-use m88_cli::Status;
+use m88_base::Status;
 use std::alloc::{AllocError, Global};
 
 /// What the first characters of a line say that it is.

@@ -1,6 +1,6 @@
 //! What a row says. Its lines are kept as they stand in the file: cells are put in and bytes are read when it is tried.
 
-use m88_cli::Status;
+use m88_base::Status;
 use std::alloc::Global;
 
 /// Where a text stands in what is written.
