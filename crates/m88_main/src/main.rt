@@ -3,6 +3,7 @@
 #![tactic(auto)]
 
 mod advice;
+mod forms;
 mod keeping;
 mod refusal;
 #[cfg(test)]
@@ -10,6 +11,7 @@ mod tests;
 mod usage;
 
 use crate::advice::{NO_WORDS, advice_on};
+use crate::forms::Form;
 use crate::keeping::{Keeping, Showing};
 use crate::refusal::Refused;
 use crate::usage::{NoFile, Usage};
@@ -45,7 +47,8 @@ fn carry_out(rt: &HostRuntime, words: &[String]) -> Status {
         Some(name) => name.as_str(),
         None => "",
     };
-    let mut source = Keeping::new(rt.alloc(), StdSource::new(rt.reader()), reads_lines(name));
+    let reads_lines = Form::named(name).is_some_and(|form| form.reads_lines());
+    let mut source = Keeping::new(rt.alloc(), StdSource::new(rt.reader()), reads_lines);
     let mut sink = Showing::new(rt.alloc(), StdSink::new(rt.stdout()));
     let mut watch = Unwatched::new();
     let status = m88(rt.alloc(), words, &mut source, &mut sink, &mut watch);
@@ -83,12 +86,4 @@ fn tell_refusal<'a>(
     if let Some(refused) = Refused::of(command, written, input) {
         let _ = eprintln!(rt; "{refused}");
     }
-}
-
-/// Whether a command reads a source, a script or a trace, of whose lines a person wants to see the one at fault.
-fn reads_lines(name: &str) -> bool {
-    matches!(
-        name,
-        "asm" | "build" | "run" | "mon" | "share" | "emu" | "page" | "trace" | "check"
-    )
 }

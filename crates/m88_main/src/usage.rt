@@ -1,5 +1,6 @@
 //! What a person is told where the words are no command: which of them was not understood, and what is wanted.
 
+use crate::forms::{FORMS, Form, Place};
 use crate::refusal::put_shown;
 use m88_cli::{MOST_FRAMES, MOST_LIMIT, MOST_STATEMENTS, command};
 use std::alloc::{AllocError, Global};
@@ -7,46 +8,6 @@ use std::fmt;
 
 /// The version of this program, which manual page and changelog tell too.
 const VERSION: &str = "1.0.0";
-
-/// A word after the name of a command.
-#[derive(Clone, Copy)]
-pub enum Place {
-    Frames,
-    Limit,
-    Absent,
-    Schedule,
-    /// A schedule that may hand the board on.
-    Turns,
-    /// It may be left out, and stands last.
-    Mode,
-    Number,
-    Count,
-}
-
-impl Place {
-    fn name(self) -> &'static str {
-        match self {
-            Place::Frames => "FRAMES",
-            Place::Limit => "LIMIT",
-            Place::Absent => "ABSENT",
-            Place::Schedule | Place::Turns => "SCHEDULE",
-            Place::Mode => "the word after SCHEDULE",
-            Place::Number => "NUMBER",
-            Place::Count => "COUNT",
-        }
-    }
-
-    /// A word that is understood there.
-    fn sample(self) -> &'static str {
-        match self {
-            Place::Limit | Place::Number => "0",
-            Place::Absent => "none",
-            Place::Schedule | Place::Turns => "-",
-            Place::Mode => "mxm",
-            Place::Frames | Place::Count => "1",
-        }
-    }
-}
 
 impl fmt::Display for Place {
     fn fmt<W: fmt::Write>(&self, f: &mut fmt::Formatter<W>) -> fmt::Result {
@@ -66,122 +27,6 @@ impl fmt::Display for Place {
             Place::Number => write!(f, "NUMBER is a decimal number from 0 to 4294967295"),
             Place::Count => write!(f, "COUNT is a decimal number from 1 to {MOST_STATEMENTS}"),
         }
-    }
-}
-
-/// How a command is called: its name, the words after it, and what it reads.
-#[derive(Clone, Copy)]
-pub struct Form {
-    name: &'static str,
-    places: &'static [Place],
-    reads: &'static str,
-}
-
-const RUN: [Place; 4] = [Place::Limit, Place::Absent, Place::Schedule, Place::Mode];
-
-const SHARED: [Place; 3] = [Place::Limit, Place::Absent, Place::Turns];
-
-/// A run without a mode.
-const PLAIN: [Place; 3] = [Place::Limit, Place::Absent, Place::Schedule];
-
-const PAGED: [Place; 4] = [Place::Frames, Place::Limit, Place::Absent, Place::Schedule];
-
-const SESSION: [Place; 3] = [Place::Absent, Place::Schedule, Place::Mode];
-
-const WORKLOAD: [Place; 2] = [Place::Number, Place::Count];
-
-const FORMS: [Form; 13] = [
-    Form {
-        name: "run",
-        places: &RUN,
-        reads: " < SOURCE",
-    },
-    Form {
-        name: "exec",
-        places: &RUN,
-        reads: " < RECORDS",
-    },
-    Form {
-        name: "dis",
-        places: &[],
-        reads: " < RECORDS",
-    },
-    Form {
-        name: "asm",
-        places: &[],
-        reads: " < SOURCE",
-    },
-    Form {
-        name: "link",
-        places: &[],
-        reads: " < OBJECTS",
-    },
-    Form {
-        name: "build",
-        places: &[],
-        reads: " < SOURCE",
-    },
-    Form {
-        name: "mon",
-        places: &SESSION,
-        reads: " < SCRIPT-AND-SOURCE",
-    },
-    Form {
-        name: "share",
-        places: &SHARED,
-        reads: " < SOURCES",
-    },
-    Form {
-        name: "emu",
-        places: &PLAIN,
-        reads: " < SOURCE",
-    },
-    Form {
-        name: "page",
-        places: &PAGED,
-        reads: " < SOURCE",
-    },
-    Form {
-        name: "trace",
-        places: &PLAIN,
-        reads: " < SOURCE",
-    },
-    Form {
-        name: "check",
-        places: &[],
-        reads: " < SOURCE-AND-TRACE",
-    },
-    Form {
-        name: "soak",
-        places: &WORKLOAD,
-        reads: "",
-    },
-];
-
-impl Form {
-    fn reads_input(self) -> bool {
-        !self.reads.is_empty()
-    }
-
-    /// The least number of words after the name.
-    fn fewest(self) -> usize {
-        match self.places.split_last() {
-            Some((Place::Mode, others)) => others.len(),
-            _ => self.places.len(),
-        }
-    }
-}
-
-impl fmt::Display for Form {
-    fn fmt<W: fmt::Write>(&self, f: &mut fmt::Formatter<W>) -> fmt::Result {
-        write!(f, "m88 {}", self.name)?;
-        for place in self.places {
-            match place {
-                Place::Mode => f.write_str(" [mxm]")?,
-                _ => write!(f, " {}", place.name())?,
-            }
-        }
-        f.write_str(self.reads)
     }
 }
 
@@ -206,13 +51,13 @@ impl<'a> Usage<'a> {
         if name.as_str().starts_with("-") || name.as_str() == "help" {
             return Usage::All;
         }
-        let Some(form) = form_of(name.as_str()) else {
+        let Some(form) = Form::named(name.as_str()) else {
             return Usage::Name(name.as_str());
         };
-        if others.len() < form.fewest() || others.len() > form.places.len() {
+        if others.len() < form.fewest() || others.len() > form.places().len() {
             return Usage::Count(form, others.len());
         }
-        for (at, (place, word)) in form.places.iter().zip(others).enumerate() {
+        for (at, (place, word)) in form.places().iter().zip(others).enumerate() {
             if !matches!(is_understood(alloc, form, at, word.as_str()), Ok(true)) {
                 return Usage::Word(form, *place, word.as_str());
             }
@@ -225,7 +70,7 @@ impl<'a> Usage<'a> {
         match self {
             Usage::All => false,
             Usage::Name(_) => true,
-            Usage::Count(form, _) => form.reads_input() && word != form.name,
+            Usage::Count(form, _) => form.reads_input() && word != form.name(),
             Usage::Word(form, _, wrong) => form.reads_input() && word == *wrong,
         }
     }
@@ -242,17 +87,12 @@ impl<'a> fmt::Display for NoFile<'a> {
     }
 }
 
-/// The form of a command's name.
-fn form_of(name: &str) -> Option<Form> {
-    FORMS.iter().find(|form| form.name == name).copied()
-}
-
 /// Whether a word is understood in one of a form's places: whether there is a command with it and words that are
 /// understood in the others.
 fn is_understood(alloc: Global, form: Form, at: usize, word: &str) -> Result<bool, AllocError> {
     let mut words: Vec<String> = Vec::new(alloc);
-    words.push(String::from_str(alloc, form.name)?)?;
-    for (k, place) in form.places.iter().enumerate() {
+    words.push(String::from_str(alloc, form.name())?)?;
+    for (k, place) in form.places().iter().enumerate() {
         let text = if k == at { word } else { place.sample() };
         words.push(String::from_str(alloc, text)?)?;
     }
@@ -270,14 +110,14 @@ impl<'a> fmt::Display for Usage<'a> {
                 put_all(f)
             }
             Usage::Count(form, count) => {
-                write!(f, "m88 {}: it takes {}", form.name, form.fewest())?;
-                if form.fewest() < form.places.len() {
-                    write!(f, " or {}", form.places.len())?;
+                write!(f, "m88 {}: it takes {}", form.name(), form.fewest())?;
+                if form.fewest() < form.places().len() {
+                    write!(f, " or {}", form.places().len())?;
                 }
                 write!(f, " words after its name, not {count}\nusage: {form}")
             }
             Usage::Word(form, place, word) => {
-                write!(f, "m88 {}: {} can't be ", form.name, place.name())?;
+                write!(f, "m88 {}: {} can't be ", form.name(), place.name())?;
                 put_word(f, word)?;
                 write!(f, "\n{place}\nusage: {form}")
             }
