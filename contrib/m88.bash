@@ -1,32 +1,24 @@
-# Completion of the words of m88 for bash. Read it in a shell, by . contrib/m88.bash, or copy it to the folder of
-# completions, as /usr/share/bash-completion/completions/m88.
+# Completion of the words of m88 for bash, as the usage text of the program has them. Read it in a shell, by
+# . contrib/m88.bash, or copy it to the folder of completions, as /usr/share/bash-completion/completions/m88.
 _m88() {
-  local word=${COMP_WORDS[COMP_CWORD]} places place choices
-  if [ "$COMP_CWORD" -eq 1 ]; then
-    choices="run exec dis asm link build mon share emu page trace check soak"
-  else
-    case ${COMP_WORDS[1]} in
-      run | exec) places="LIMIT ABSENT SCHEDULE MODE" ;;
-      mon) places="ABSENT SCHEDULE MODE" ;;
-      share) places="LIMIT ABSENT TURNS" ;;
-      emu | trace) places="LIMIT ABSENT SCHEDULE" ;;
-      page) places="FRAMES LIMIT ABSENT SCHEDULE" ;;
-      soak) places="NUMBER COUNT" ;;
-      *) places="" ;;
+  local word=${COMP_WORDS[COMP_CWORD]} line form choices=
+  while IFS= read -r line; do
+    read -ra form <<<"${line%%<*}"
+    case $COMP_CWORD:$line in
+      1:"  m88 "*) choices+=" ${form[1]}" ;;
+      *:"  m88 ${COMP_WORDS[1]} "*) choices=${form[COMP_CWORD]:-} ;;
     esac
-    place=$(set -- $places; shift "$((COMP_CWORD - 2))" 2>/dev/null && echo "${1:-}")
-    case $place in
-      FRAMES) choices="1 2 4 8 16 32 64" ;;
-      LIMIT) choices="100 1000 1000000" ;;
-      ABSENT) choices="none all" ;;
-      SCHEDULE) choices="- i r e" ;;
-      TURNS) choices="- i r e t" ;;
-      MODE) choices="mxm" ;;
-      NUMBER) choices="0 1" ;;
-      COUNT) choices="100 1000 40000" ;;
-      *) choices="" ;;
-    esac
-  fi
+  done < <(M88_BUILD=0 "$1" help 2>&1 </dev/null)
+  case ${COMP_WORDS[1]}:$choices in
+    *:FRAMES) choices="1 2 4 8 16 32 64" ;;
+    *:LIMIT) choices="100 1000 1000000" ;;
+    *:ABSENT) choices="none all" ;;
+    share:SCHEDULE) choices="- i r e t" ;;
+    *:SCHEDULE) choices="- i r e" ;;
+    *:"[mxm]") choices=mxm ;;
+    *:NUMBER) choices="0 1" ;;
+    *:COUNT) choices="100 1000 40000" ;;
+  esac
   # Where no word fits, as after <, bash completes the names of files.
   COMPREPLY=($(compgen -W "$choices" -- "$word"))
 }
