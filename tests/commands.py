@@ -1,0 +1,27 @@
+"""How each command of m88 is called, as the table of the program has it, in crates/m88_main/src/forms.rt."""
+import os
+import re
+from typing import NamedTuple
+
+TOP = os.path.dirname(os.path.dirname(os.path.realpath(__file__)))
+# How a word is shown that the usage text doesn't call by the name that the table has.
+SHOWN = {"Mode": "[mxm]", "Turns": "SCHEDULE"}
+
+
+class Form(NamedTuple):
+    """The words after a command's name, as they are shown, and what it reads, as the table calls it."""
+
+    places: list
+    input: str
+
+
+def forms():
+    """The form of each command, in the order of the table."""
+    with open(os.path.join(TOP, "crates", "m88_main", "src", "forms.rt"), encoding="ascii") as file:
+        text = file.read()
+    lists = {name: re.findall(r"Place::(\w+)", places)
+             for name, places in re.findall(r"const (\w+): \[Place; \d+\] =\s*\[([^\]]*)\]", text)}
+    rows = re.findall(r'^    Form\("(\w+)", &(\w+|\[\]), Input::(\w+)\),$', text, re.M)
+    if not rows or len(rows) != int(re.search(r"const FORMS: \[Form; (\d+)\]", text).group(1)):
+        raise ValueError("not every row of the table is understood")
+    return {name: Form([SHOWN.get(place, place.upper()) for place in lists.get(places, [])], given) for name, places, given in rows}
