@@ -24,7 +24,7 @@ use Rattle.m88_pager.specs.Frames.{Frames as FramesSeen, dirty_count, ins_along,
 use Rattle.m88_pager.specs.Inside.Bytes.{in_bytes}
 use Rattle.m88_pager.specs.Inside.Calls.{AreFlushed}
 use Rattle.m88_pager.specs.Inside.Came.{CameTo, IsFinished}
-use Rattle.m88_pager.specs.Inside.Contents.{Stands}
+use Rattle.m88_pager.specs.Inside.Contents.{StandWhereTold}
 use Rattle.m88_pager.specs.Inside.Seen.{AreCarried, held_by}
 use Rattle.m88_pager.specs.Inside.Told.{AreChanged}
 use Rattle.m88_pager.specs.Pages.{HoldsWhereTold, page_of, writes_page}
@@ -68,8 +68,8 @@ came_to p m most image f g o words told now is same value carried flushed change
     let bus : ℕ → ℕ = bus_after_all xs (in_words original) in
     let history : bus ≡ in_words (state p m.retired).memory = ap (bus_after_all xs) same ∙ sym (state_bus p m.retired is) in
     let retired : o.retired ≡ m.retired = retired_there p m o value in
-    let alone : Stands (page_of original) (page_of (in_bytes bus)) (writes_page xs) (held_by g) [] now =
-    subst (λ (es : List (ℕ × Frame)). Stands (page_of original) (page_of (in_bytes bus)) (writes_page xs) (held_by g) es now) flushed.empty
+    let alone : StandWhereTold (page_of original) (page_of (in_bytes bus)) (writes_page xs) (held_by g) [] now =
+    subst (λ (es : List (ℕ × Frame)). StandWhereTold (page_of original) (page_of (in_bytes bus)) (writes_page xs) (held_by g) es now) flushed.empty
     (flushed.stands (page_of original) (page_of (in_bytes bus)) (writes_page xs) carried.stands) in
     record {
       but_words = words_open p m o words value;

@@ -19,7 +19,7 @@ use Rattle.m88_pager.proofs.Coming.{none_there}
 use Rattle.m88_pager.proofs.Layers.{by_test}
 use Rattle.m88_pager.proofs.Words.{bytes_back, word_read, words_there}
 use Rattle.m88_pager.specs.Inside.Bytes.{AreWords, in_bytes}
-use Rattle.m88_pager.specs.Inside.Contents.{StandsFor, behind, over}
+use Rattle.m88_pager.specs.Inside.Contents.{StandForMemory, behind, over}
 use Rattle.m88_pager.specs.Inside.Seen.{ComesFrom}
 use Rattle.m88_pager.specs.Inside.Told.{AreChanged, HasNone, IsNextHeld, StandsAlone}
 use Rattle.m88_pager.specs.Pages.{page_of}
@@ -49,13 +49,13 @@ first_page original page bytes = ap (λ (memory : ℕ → ℕ). page_of memory p
 
 -- a page that no store holds is that of memory at first
 alone_page : (original bus : ℕ → ℕ) (written held : ℕ → Bool) (pages : PageMap) (page : ℕ) →
-    StandsFor (page_of original) (page_of (in_bytes bus)) written held [] pages →
+    StandForMemory (page_of original) (page_of (in_bytes bus)) written held [] pages →
     behind (page_of original) pages page ≡ page_of (in_bytes bus) page
 unfolding over
 alone_page original bus written held pages page s = ap (λ (g : ℕ → List ℕ). g page) s.same
 
 unheld_page : (original bus : ℕ → ℕ) (written held : ℕ → Bool) (pages : PageMap) (page : ℕ) →
-    StandsFor (page_of original) (page_of (in_bytes bus)) written held [] pages → held page ≡ false →
+    StandForMemory (page_of original) (page_of (in_bytes bus)) written held [] pages → held page ≡ false →
     page_of original page ≡ page_of (in_bytes bus) page
 unfolding behind
 unheld_page original bus written held pages page s none =

@@ -5,7 +5,7 @@ use Rattle.std.proofs.lemmas.List.{drop_all, take_all}
 use Rattle.std.specs.FinMap.{get}
 use Rattle.m88_pager.specs.Inside.Contents.{behind}
 use Rattle.m88_pager.specs.Inside.Seen.{ComesFrom}
-use Rattle.m88_pager.specs.Store.{Finds, PageMap, Reads}
+use Rattle.m88_pager.specs.Store.{Finds, PageMap, ReadsPage}
 
 pub none_there : (o : Option (List ℕ)) (d : List ℕ) → is_some o ≡ false → unwrap_or o d ≡ d
 none_there None d h = refl
@@ -25,7 +25,7 @@ not_held original held (Some pages) page bytes h is = λ same. is ∙ sym (none_
 
 -- and one that was
 pub is_held : (original : ℕ → List ℕ) (held : ℕ → Bool) (told : Option PageMap) (page : ℕ) (found : Bool) (before after : List ℕ) →
-    held page ≡ true → Reads told page found before after → ComesFrom original held told page after
+    held page ≡ true → ReadsPage told page found before after → ComesFrom original held told page after
 unfolding behind
 is_held original held None page found before after h reads = tt
 is_held original held (Some pages) page found before after h reads =

@@ -5,7 +5,7 @@ use Rattle.std.proofs.lemmas.List.{get_or-take}
 use Rattle.std.proofs.lemmas.Option.{slice_get-get_or}
 use Rattle.m88_pager.proofs.Layers.{last_splits}
 use Rattle.m88_pager.specs.Frames.{dirty_count, one_if_dirty}
-use Rattle.m88_pager.specs.Inside.Seen.{IsWhole}
+use Rattle.m88_pager.specs.Inside.Seen.{IsWholePage}
 use Rattle.m88_pager.specs.declared.frames.Frame.{Frame}
 
 dirty_last : (pages : List (ℕ × Bool)) (page : ℕ × Bool) → dirty_count (pages ++ (page ∷ [])) ≡ one_if_dirty (Some page) + dirty_count pages
@@ -44,7 +44,7 @@ at_most_one (Some page) = by_mark page.1
     by_mark true = omega arith
     by_mark false = omega arith
 
-pub whole_front : (n : ℕ) (es : List (ℕ × Frame)) → All IsWhole es → All IsWhole (take n es)
+pub whole_front : (n : ℕ) (es : List (ℕ × Frame)) → All IsWholePage es → All IsWholePage (take n es)
 whole_front n es all = λ k d h.
     let long = length-take n es in
-    subst IsWhole (sym (get_or-take n es k d (omega (arith, h, long)))) (all k d (omega (arith, h, long)))
+    subst IsWholePage (sym (get_or-take n es k d (omega (arith, h, long)))) (all k d (omega (arith, h, long)))

@@ -11,7 +11,7 @@ use Rattle.std.specs.FinMap.{get, get-insert, insert}
 use Rattle.std.specs.List.{AllByRecursion, IsDistinct}
 use Rattle.std.specs.Map.{keys_of, lookup, remove_entry}
 use Rattle.std.specs.Ordering.{eq_by_cmp, nat_cmp}
-use Rattle.m88_pager.specs.Inside.Contents.{AreClean, behind, is_dirty_in, over, with_page}
+use Rattle.m88_pager.specs.Inside.Contents.{AreClean, behind, is_dirty_in, over, with_new_page}
 use Rattle.m88_pager.specs.Store.{PageMap}
 use Rattle.m88_pager.specs.declared.frames.Frame.{Frame}
 
@@ -37,7 +37,7 @@ all_at P xs n x all h = subst P (get_or_from_slice_get xs n x x h) (All-get_or P
 
 -- what stands behind the last frame, seen through it
 pub over_last : (es : List (ℕ × Frame)) (e : ℕ × Frame) (back : ℕ → List ℕ) →
-    over (es ++ (e ∷ [])) back ≡ over es (with_page e.0 e.1.bytes.items back)
+    over (es ++ (e ∷ [])) back ≡ over es (with_new_page e.0 e.1.bytes.items back)
 unfolding over
 over_last [] e back = refl
 over_last (f ∷ es) e back =
@@ -45,7 +45,7 @@ over_last (f ∷ es) e back =
 
 -- a store that a page was put into
 pub put_behind : (original : ℕ → List ℕ) (pages : PageMap) (k : ℕ) (bytes : List ℕ) →
-    behind original (insert pages k bytes) ≡ with_page k bytes (behind original pages)
+    behind original (insert pages k bytes) ≡ with_new_page k bytes (behind original pages)
 unfolding behind
 put_behind original pages k bytes = fun_ext (λ q. rw (get-insert nat_cmp_total pages k bytes q) (by_place q))
   where
@@ -62,7 +62,7 @@ put_held pages k bytes q = rw (get-insert nat_cmp_total pages k bytes q) (by_tes
     (λ f. let d = eqb-false k q f in rw f (grind (arith, nat_tests))))
 
 -- a page that already holds what is put
-pub same_behind : (k : ℕ) (bytes : List ℕ) (back : ℕ → List ℕ) → bytes ≡ back k → with_page k bytes back ≡ back
+pub same_behind : (k : ℕ) (bytes : List ℕ) (back : ℕ → List ℕ) → bytes ≡ back k → with_new_page k bytes back ≡ back
 same_behind k bytes back h = fun_ext (λ q. by_test (k == q)
     (λ t. rw t (h ∙ ap back (eqb-true k q t)))
     (λ f. rw f refl))
@@ -86,7 +86,7 @@ last_apart k (f ∷ es) e h = last_apart k es e h.1
 
 pub clean_apart : (es : List (ℕ × Frame)) (e : ℕ × Frame) (back : ℕ → List ℕ) (bytes : List ℕ) →
     IsDistinct nat_eq (keys_of (es ++ (e ∷ []))) → AreClean es back →
-    AreClean es (with_page e.0 bytes back)
+    AreClean es (with_new_page e.0 bytes back)
 unfolding AreClean IsDistinct
 clean_apart [] e back bytes d h = tt
 clean_apart (f ∷ es) e back bytes d h =
@@ -193,6 +193,6 @@ over_come es page frame back none is = fun_ext (λ q. by_test (page == q)
     (λ f. rw f refl))
 
 pub over_changed : (es : List (ℕ × Frame)) (page : ℕ) (old new : Frame) (back : ℕ → List ℕ) →
-    over ((page, new) ∷ es) back ≡ with_page page new.bytes.items (over ((page, old) ∷ es) back)
+    over ((page, new) ∷ es) back ≡ with_new_page page new.bytes.items (over ((page, old) ∷ es) back)
 unfolding over
 over_changed es page old new back = fun_ext (λ q. by_test (page == q) (λ t. rw t refl) (λ f. rw f refl))

@@ -5,14 +5,14 @@ use Rattle.std.specs.FinMap.{get, insert}
 use Rattle.std.specs.List.{IsDistinct}
 use Rattle.std.specs.Map.{keys_of, lookup, remove_entry}
 use Rattle.m88_pager.proofs.Layers.{clean_apart, clean_found, clean_front, clean_last, clean_removed, dirty_found, dirty_last, last_splits, over_changed, over_come, over_last, over_taken, put_behind, put_held, same_behind}
-use Rattle.m88_pager.specs.Inside.Contents.{AreClean, Stands, StandsFor, behind, is_dirty_in, over, with_page}
+use Rattle.m88_pager.specs.Inside.Contents.{AreClean, StandWhereTold, StandForMemory, behind, is_dirty_in, over, with_new_page}
 use Rattle.m88_pager.specs.Store.{PageMap}
 use Rattle.m88_pager.specs.declared.frames.Frame.{Frame}
 
 -- the last page leaves, and it is clean
 leaves_clean : (original memory : ℕ → List ℕ) (written held : ℕ → Bool) (es : List (ℕ × Frame)) (e : ℕ × Frame) (pages : PageMap) →
-    e.1.dirty ≡ false → StandsFor original memory written held (es ++ (e ∷ [])) pages →
-    StandsFor original memory written held es pages
+    e.1.dirty ≡ false → StandForMemory original memory written held (es ++ (e ∷ [])) pages →
+    StandForMemory original memory written held es pages
 leaves_clean original memory written held es e pages d s = record {
   same =
       ap (over es) (sym (same_behind e.0 e.1.bytes.items (behind original pages) (clean_last es e (behind original pages) s.clean d)))
@@ -36,8 +36,8 @@ leaves_clean original memory written held es e pages d s = record {
 leaves_dirty : (original memory : ℕ → List ℕ) (written held held' : ℕ → Bool) (es : List (ℕ × Frame)) (e : ℕ × Frame) (pages : PageMap) →
     IsDistinct nat_eq (keys_of (es ++ (e ∷ []))) → e.1.dirty ≡ true →
     ((page : ℕ) → held' page ≡ (if e.0 == page then true else held page)) →
-    StandsFor original memory written held (es ++ (e ∷ [])) pages →
-    StandsFor original memory written held' es (insert pages e.0 e.1.bytes.items)
+    StandForMemory original memory written held (es ++ (e ∷ [])) pages →
+    StandForMemory original memory written held' es (insert pages e.0 e.1.bytes.items)
 leaves_dirty original memory written held held' es e pages apart d marked s = record {
   same =
       ap (over es) (put_behind original pages e.0 e.1.bytes.items)
@@ -69,30 +69,30 @@ leaves_dirty original memory written held held' es e pages apart d marked s = re
 -- the same of the list as it is
 pub stands_clean : (original memory : ℕ → List ℕ) (written held : ℕ → Bool) (xs : List (ℕ × Frame)) (e : ℕ × Frame)
     (told : Option PageMap) → slice_get xs (length xs - 1) ≡ Some e → e.1.dirty ≡ false →
-    Stands original memory written held xs told →
-    Stands original memory written held (take (length xs - 1) xs) told
+    StandWhereTold original memory written held xs told →
+    StandWhereTold original memory written held (take (length xs - 1) xs) told
 stands_clean original memory written held xs e None last d s = tt
 stands_clean original memory written held xs e (Some pages) last d s =
     leaves_clean original memory written held (take (length xs - 1) xs) e pages d
-    (subst (λ (ys : List (ℕ × Frame)). StandsFor original memory written held ys pages) (last_splits xs e last) s)
+    (subst (λ (ys : List (ℕ × Frame)). StandForMemory original memory written held ys pages) (last_splits xs e last) s)
 
 pub stands_dirty : (original memory : ℕ → List ℕ) (written held held' : ℕ → Bool) (xs : List (ℕ × Frame)) (e : ℕ × Frame)
     (told : Option PageMap) → slice_get xs (length xs - 1) ≡ Some e → IsDistinct nat_eq (keys_of xs) → e.1.dirty ≡ true →
     ((page : ℕ) → held' page ≡ (if e.0 == page then true else held page)) →
-    Stands original memory written held xs told →
-    Stands original memory written held' (take (length xs - 1) xs) (option_map (λ pages. insert pages e.0 e.1.bytes.items) told)
+    StandWhereTold original memory written held xs told →
+    StandWhereTold original memory written held' (take (length xs - 1) xs) (option_map (λ pages. insert pages e.0 e.1.bytes.items) told)
 stands_dirty original memory written held held' xs e None last apart d marked s = tt
 stands_dirty original memory written held held' xs e (Some pages) last apart d marked s =
     let splits = last_splits xs e last in
     leaves_dirty original memory written held held' (take (length xs - 1) xs) e pages
     (subst (λ (ys : List (ℕ × Frame)). IsDistinct nat_eq (keys_of ys)) splits apart) d marked
-    (subst (λ (ys : List (ℕ × Frame)). StandsFor original memory written held ys pages) splits s)
+    (subst (λ (ys : List (ℕ × Frame)). StandForMemory original memory written held ys pages) splits s)
 
 -- the page of a frame is taken to the front
 pub stands_taken : (original memory : ℕ → List ℕ) (written held : ℕ → Bool) (es : List (ℕ × Frame)) (page : ℕ) (frame : Frame)
     (told : Option PageMap) → lookup (nat_eq page) es ≡ Some frame →
-    Stands original memory written held es told →
-    Stands original memory written held ((page, frame) ∷ remove_entry (nat_eq page) es) told
+    StandWhereTold original memory written held es told →
+    StandWhereTold original memory written held ((page, frame) ∷ remove_entry (nat_eq page) es) told
 unfolding AreClean
 stands_taken original memory written held es page frame None found s = tt
 stands_taken original memory written held es page frame (Some pages) found s = record {
@@ -105,8 +105,8 @@ stands_taken original memory written held es page frame (Some pages) found s = r
 -- a page comes in that stands in none
 pub stands_come : (original memory : ℕ → List ℕ) (written held : ℕ → Bool) (es : List (ℕ × Frame)) (page : ℕ) (frame : Frame)
     (pages : PageMap) → lookup (nat_eq page) es ≡ None → frame.dirty ≡ false → frame.bytes.items ≡ behind original pages page →
-    StandsFor original memory written held es pages →
-    StandsFor original memory written held ((page, frame) ∷ es) pages
+    StandForMemory original memory written held es pages →
+    StandForMemory original memory written held ((page, frame) ∷ es) pages
 unfolding AreClean is_dirty_in
 stands_come original memory written held es page frame pages none d is s = record {
   same = over_come es page frame (behind original pages) none is ∙ s.same;
@@ -122,12 +122,12 @@ stands_come original memory written held es page frame pages none d is s = recor
 -- the page at the front is written
 pub stands_written : (original memory : ℕ → List ℕ) (written held : ℕ → Bool) (es : List (ℕ × Frame)) (page : ℕ) (old new : Frame)
     (told : Option PageMap) → new.dirty ≡ true →
-    Stands original memory written held ((page, old) ∷ es) told →
-    Stands original (with_page page new.bytes.items memory) (λ q. written q || page == q) held ((page, new) ∷ es) told
+    StandWhereTold original memory written held ((page, old) ∷ es) told →
+    StandWhereTold original (with_new_page page new.bytes.items memory) (λ q. written q || page == q) held ((page, new) ∷ es) told
 unfolding AreClean is_dirty_in
 stands_written original memory written held es page old new None d s = tt
 stands_written original memory written held es page old new (Some pages) d s = record {
-  same = over_changed es page old new (behind original pages) ∙ ap (with_page page new.bytes.items) s.same;
+  same = over_changed es page old new (behind original pages) ∙ ap (with_new_page page new.bytes.items) s.same;
   clean = ((λ clean. absurd (not_both new.dirty d clean)), s.clean.1);
   written_are = λ q.
       ap (λ (b : Bool). is_some (get pages q) || (page == q && b || is_dirty_in es q)) d

@@ -31,8 +31,8 @@ use Rattle.m88_pager.proofs.Words.{bytes_back}
 use Rattle.m88_pager.specs.Frames.{frames_after}
 use Rattle.m88_pager.specs.Inside.Bytes.{in_bytes}
 use Rattle.m88_pager.specs.Inside.Calls.{AreEmpty}
-use Rattle.m88_pager.specs.Inside.Contents.{AreClean, Stands, StandsFor, behind, is_dirty_in, over}
-use Rattle.m88_pager.specs.Inside.Seen.{AreCarried, IsWhole, IsWithin, IsWordTriple, held_by, marked}
+use Rattle.m88_pager.specs.Inside.Contents.{AreClean, StandWhereTold, StandForMemory, behind, is_dirty_in, over}
+use Rattle.m88_pager.specs.Inside.Seen.{AreCarried, IsWholePage, AreWithin, IsWordTriple, held_by, with_mark}
 use Rattle.m88_pager.specs.Inside.Told.{StandsAlone}
 use Rattle.m88_pager.specs.Paged.{HoldsNoneWhereTold, Tells}
 use Rattle.m88_pager.specs.Pages.{HoldsWhereTold, page_of}
@@ -51,7 +51,7 @@ bytes_there image is a = byte_there (byte_at image a) a (is.bytes a)
 
 -- nothing is carried out yet
 none_held : (original : ℕ → ℕ) (held : ℕ → Bool) → AreBytes original → ((page : ℕ) → held page ≡ false) →
-    StandsFor (page_of original) (page_of (in_bytes (in_words original))) (λ page. false) held [] empty
+    StandForMemory (page_of original) (page_of (in_bytes (in_words original))) (λ page. false) held [] empty
 unfolding over behind AreClean is_dirty_in
 none_held original held bytes none = record {
   same = fun_ext (λ page.
@@ -64,14 +64,14 @@ none_held original held bytes none = record {
 
 none_told : (original : ℕ → ℕ) (held : ℕ → Bool) (told : Option PageMap) → AreBytes original → ((page : ℕ) → held page ≡ false) →
     HoldsNoneWhereTold told →
-    Stands (page_of original) (page_of (in_bytes (in_words original))) (λ page. false) held [] told
+    StandWhereTold (page_of original) (page_of (in_bytes (in_words original))) (λ page. false) held [] told
 none_told original held None bytes none holds = tt
 none_told original held (Some pages) bytes none holds =
-    subst (λ (m : PageMap). StandsFor (page_of original) (page_of (in_bytes (in_words original))) (λ page. false) held [] m) (sym holds)
+    subst (λ (m : PageMap). StandForMemory (page_of original) (page_of (in_bytes (in_words original))) (λ page. false) held [] m) (sym holds)
     (none_held original held bytes none)
 
-none_whole : (es : List (ℕ × Frame)) → es ≡ [] → All IsWhole es
-none_whole es none = subst (All IsWhole) (sym none) (λ k d h. absurd (omega (arith, h)))
+none_whole : (es : List (ℕ × Frame)) → es ≡ [] → All IsWholePage es
+none_whole es none = subst (All IsWholePage) (sym none) (λ k d h. absurd (omega (arith, h)))
 
 pub none_carried : (original : ℕ → ℕ) (most : ℕ) (f : Frames) (told : Option PageMap) → AreBytes original → f.cache.cap ≡ most → {count : ℕ} →
     AreEmpty count f → HoldsNoneWhereTold told → AreCarried original most [] f told
@@ -80,13 +80,13 @@ none_carried original most f told bytes cap opened holds = record {
   bytes = bytes;
   whole = none_whole f.cache.entries opened.empty;
   cap = cap;
-  counts = λ i. record { pages = map marked (opened.empty i); ins = opened.ins i; outs = opened.outs i };
+  counts = λ i. record { pages = map with_mark (opened.empty i); ins = opened.ins i; outs = opened.outs i };
   stands =
-      subst (λ (es : List (ℕ × Frame)). Stands (page_of original) (page_of (in_bytes (in_words original))) (λ page. false) (held_by f) es told)
+      subst (λ (es : List (ℕ × Frame)). StandWhereTold (page_of original) (page_of (in_bytes (in_words original))) (λ page. false) (held_by f) es told)
       (sym opened.empty) (none_told original (held_by f) told bytes opened.held holds);
 }
 
-pub none_within : (n : ℕ) {count : ℕ} {f : Frames} → AreEmpty count f → IsWithin n f
+pub none_within : (n : ℕ) {count : ℕ} {f : Frames} → AreEmpty count f → AreWithin n f
 none_within n {count} {f} opened =
     let ins = opened.ins in
     let outs = opened.outs in
@@ -233,7 +233,7 @@ page_there (Some bytes) original now is_written same marks =
     subst (λ (b : Bool). Some bytes ≡ (if b then Some now else None)) marks (ap Some same)
 
 pub holds_written : (original memory : ℕ → ℕ) (bus : ℕ → ℕ) (written held : ℕ → Bool) (told : Option PageMap) → bus ≡ in_words memory →
-    AreBytes memory → Stands (page_of original) (page_of (in_bytes bus)) written held [] told →
+    AreBytes memory → StandWhereTold (page_of original) (page_of (in_bytes bus)) written held [] told →
     HoldsWhereTold written memory told
 unfolding over behind is_dirty_in
 holds_written original memory bus written held None is bytes s = tt
@@ -251,7 +251,7 @@ tells_on (Some pages) None same tells = absurd cc
 tells_on (Some pages) (Some others) same tells = tt
 
 pub stands_alone : (original bus : ℕ → ℕ) (written held : ℕ → Bool) (told : Option PageMap) → Tells told →
-    Stands (page_of original) (page_of (in_bytes bus)) written held [] told → StandsAlone original bus written held told
+    StandWhereTold (page_of original) (page_of (in_bytes bus)) written held [] told → StandsAlone original bus written held told
 stands_alone original bus written held None tells s = absurd tells
 stands_alone original bus written held (Some pages) tells s = s
 

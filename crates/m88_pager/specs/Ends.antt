@@ -8,9 +8,9 @@ use Rattle.m88_pager.specs.declared.store.StoreError.{StoreError}
 use Rattle.m88_pager.specs.declared.store.StoreError.TheVariants as error
 
 -- where a store answered an error
-abbrev pub end_of : StoreError → PageEnd
-end_of error.Failed = end.StoreFault
-end_of error.Memory = end.Memory
+abbrev pub end_by_store : StoreError → PageEnd
+end_by_store error.Failed = end.StoreFault
+end_by_store error.Memory = end.Memory
 
 -- it ends by a fault of the store only where the count of faults rose
 abbrev pub EndsByCount : {T : Type 0} → ℕ → ℕ → Result T PageEnd → Type 0

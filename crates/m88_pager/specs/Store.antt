@@ -23,9 +23,9 @@ Finds (Some bytes) held before after = (held ≡ true) × (after ≡ bytes)
 
 -- what a read of a page answers and leaves. Of a store that doesn't tell its pages it is known only that what is there
 -- stays where it says that the page isn't held.
-abbrev pub Reads : Option PageMap → ℕ → Bool → List ℕ → List ℕ → Type 0
-Reads None page held before after = held ≡ false → after ≡ before
-Reads (Some pages) page held before after = Finds (get pages page) held before after
+abbrev pub ReadsPage : Option PageMap → ℕ → Bool → List ℕ → List ℕ → Type 0
+ReadsPage None page held before after = held ≡ false → after ≡ before
+ReadsPage (Some pages) page held before after = Finds (get pages page) held before after
 
 -- so many pages more were put in, where a store tells how often one was
 abbrev pub WritesMore : ℕ → Option ℕ → Option ℕ → Type 0
@@ -39,7 +39,7 @@ FailsByCount before after result = IsErrOf result Failed → Rose before after
 -- doesn't fall, and stays where no error is answered
 pub record IsPageRead (told told' : Option PageMap) (writes writes' : Option ℕ) (faults faults' page : ℕ)
     (before after : List ℕ) (result : Result Bool StoreError) : Type 0 where
-  pub reads : IfOk result (λ held. Reads told page held before after)
+  pub reads : IfOk result (λ held. ReadsPage told page held before after)
   pub same : told' ≡ told
   pub unwritten : writes' ≡ writes
   pub clean : OnOk result (faults' ≡ faults)

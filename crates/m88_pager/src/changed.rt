@@ -8,9 +8,8 @@ ghost use Rattle.m88_isa.specs.Bus.{changed_among};
 ghost use Rattle.m88_mem.specs.DataBus.{image_bytes, page_words};
 ghost use Rattle.m88_pager.specs.Inside.Bytes.{AreWords, in_bytes};
 ghost use Rattle.m88_pager.specs.Inside.Calls.{ReadsStore};
-ghost use Rattle.m88_pager.specs.Inside.Told.{AreChanged, HasNone, IsNextHeld};
+ghost use Rattle.m88_pager.specs.Inside.Told.{AreChanged, ArePagesOf, HasNone, IsNextHeld};
 ghost use Rattle.m88_pager.specs.Pages.{page_of};
-ghost use Rattle.m88_pager.specs.Store.{IsPageOf};
 
 use crate::original::original_page;
 use crate::paged::PageEnd;
@@ -84,8 +83,7 @@ fn append_changed(
     before: &[u8],
     after: &[u8],
 ) -> Result<(), NoMemory>
-    requires before { IsPageOf page before.now }
-    requires after { IsPageOf page after.now }
+    requires { ArePagesOf page before.now after.now }
     ensures { OnOk result ((old new : ℕ → ℕ) → AreWords old → AreWords new
         → before.now ≡ page_of (in_bytes old) page
         → after.now ≡ page_of (in_bytes new) page

@@ -1,18 +1,15 @@
 //! Frames before a store of pages.
 
-ghost use Rattle.std.specs.Prelude.{◌≡◌, ◌∷◌, [], ◌-◌, ◌^◌, ◌<◌, ◌≤◌, All, None, length, map, nat_eq, IfOk, IsErrOf, OnOk};
-ghost use Rattle.std.specs.Map.{lookup};
+ghost use Rattle.std.specs.Prelude.{◌≡◌, ◌∷◌, [], ◌-◌, ◌≤◌, All, length, map, IfOk, IsErrOf, OnOk};
 ghost use Rattle.std.specs.NonZero.{non_zero_usize_get};
 ghost use Rattle.m88_base.specs.Pages.{IsPage, page_bytes};
 ghost use Rattle.m88_isa.specs.Held.{most_pending};
 ghost use Rattle.m88_isa.specs.Memory.{IsWordAccess};
 ghost use Rattle.m88_isa.specs.Triples.{access_in};
 ghost use Rattle.m88_mem.specs.DataBus.{image_bytes};
-ghost use Rattle.m88_pager.specs.Ends.{UsesStore};
-ghost use Rattle.m88_pager.specs.Inside.Calls.{AreCarriedOn, AreEmpty, AreFlushed, HasFreed, HasLeft, HasPlace, HasPutOut, IsPutBack, IsTakenOut, IsWorked, MayFlush, MayLeave, PutsOut, ReadsStore};
-ghost use Rattle.m88_pager.specs.Inside.Seen.{ComesFrom, IsWithin, IsWordTriple, held_by, most_counted};
+ghost use Rattle.m88_pager.specs.Inside.Calls.{AreCarriedOn, AreEmpty, AreFlushed, HasFreed, HasLeft, HasPlace, HasPutOut, IsBrought, IsPutInFront, IsTried, IsWorked, MayCarry, MayComeIn, MayFlush, MayLeave, MayPutOut, MayWork, PutsPages, ReadsStore};
+ghost use Rattle.m88_pager.specs.Inside.Seen.{AreWithin, ComesFrom, IsWordTriple, held_by, most_counted};
 ghost use Rattle.m88_pager.specs.Pages.{page_of};
-ghost use Rattle.m88_pager.specs.Store.{IsPageOf};
 ghost use Rattle.m88_pager.specs.declared.paged.PageEnd.TheVariants.{StoreFault};
 
 use crate::original::original_page;
@@ -66,13 +63,11 @@ impl Frames {
         page: u32,
         bytes: &[u8],
     ) -> Result<(), PageEnd>
-        requires whole { IsPageOf page bytes.now }
-        requires few { self.old.outs < 2 ^ 32 - 1 }
+        requires { MayPutOut page bytes.now self.old }
         ensures out { OnOk result (HasPutOut page bytes.now self.old self.new (P.pages store.old)
             (P.pages store.new)) }
-        ensures written { OnOk result (PutsOut self.old.outs self.new.outs (P.writes store.old)
-            (P.writes store.new)) }
-        ensures store { UsesStore (P.pages store.old) (P.pages store.new) (P.faults store.old)
+        ensures store { PutsPages self.old.outs self.new.outs (P.pages store.old)
+            (P.pages store.new) (P.writes store.old) (P.writes store.new) (P.faults store.old)
             (P.faults store.new) result }
     {
         store.write(page, bytes)?;
@@ -83,13 +78,11 @@ impl Frames {
 
     /// The page that was used least recently leaves its frame, to the store where it is dirty.
     fn leave<P: PageStore>(&mut self, store: &mut P) -> Result<(), PageEnd>
-        requires some { 0 < length self.old.cache.entries }
-        requires may { MayLeave self.old }
+        requires { MayLeave self.old }
         ensures left { OnOk result (HasLeft self.old self.new (P.pages store.old)
             (P.pages store.new)) }
-        ensures written { OnOk result (PutsOut self.old.outs self.new.outs (P.writes store.old)
-            (P.writes store.new)) }
-        ensures store { UsesStore (P.pages store.old) (P.pages store.new) (P.faults store.old)
+        ensures store { PutsPages self.old.outs self.new.outs (P.pages store.old)
+            (P.pages store.new) (P.writes store.old) (P.writes store.new) (P.faults store.old)
             (P.faults store.new) result }
     {
         // That no page stands in two frames is told with their number.
@@ -105,12 +98,11 @@ impl Frames {
 
     /// Makes a frame free where all are taken.
     fn make_room<P: PageStore>(&mut self, store: &mut P) -> Result<(), PageEnd>
-        requires { MayLeave self.old }
+        requires { AreWithin most_counted self.old }
         ensures freed { OnOk result (HasFreed self.old self.new (P.pages store.old)
             (P.pages store.new)) }
-        ensures written { OnOk result (PutsOut self.old.outs self.new.outs (P.writes store.old)
-            (P.writes store.new)) }
-        ensures store { UsesStore (P.pages store.old) (P.pages store.new) (P.faults store.old)
+        ensures store { PutsPages self.old.outs self.new.outs (P.pages store.old)
+            (P.pages store.new) (P.writes store.old) (P.writes store.new) (P.faults store.old)
             (P.faults store.new) result }
     {
         if self.cache.len() < self.cache.cap().get() {
@@ -149,13 +141,12 @@ impl Frames {
         page: u32,
     ) -> Result<Frame, PageEnd>
         requires page { IsPage page }
-        requires within { IsWithin most_counted self.old }
-        requires apart { lookup (nat_eq page) self.old.cache.entries ≡ None }
-        ensures out { IfOk result (λ frame. IsTakenOut (page_of (image_bytes image.now)) page frame
-            self.old self.new (P.pages store.old) (P.pages store.new)) }
-        ensures written { OnOk result (PutsOut self.old.outs self.new.outs (P.writes store.old)
-            (P.writes store.new)) }
-        ensures store { UsesStore (P.pages store.old) (P.pages store.new) (P.faults store.old)
+        requires may { MayComeIn page self.old }
+        ensures place { OnOk result (HasPlace page self.new) }
+        ensures brought { IfOk result (λ frame. IsBrought (page_of (image_bytes image.now)) page
+            frame self.old self.new (P.pages store.old) (P.pages store.new)) }
+        ensures store { PutsPages self.old.outs self.new.outs (P.pages store.old)
+            (P.pages store.new) (P.writes store.old) (P.writes store.new) (P.faults store.old)
             (P.faults store.new) result }
     {
         self.make_room(store)?;
@@ -167,34 +158,25 @@ impl Frames {
         })
     }
 
-    /// Takes the frame of a page out; where the page stands in none, it comes in.
-    fn take<P: PageStore>(
-        &mut self,
-        store: &mut P,
-        image: &Image,
-        page: u32,
-    ) -> Result<Frame, PageEnd>
-        requires page { IsPage page }
-        requires within { IsWithin most_counted self.old }
-        ensures out { IfOk result (λ frame. IsTakenOut (page_of (image_bytes image.now)) page frame
-            self.old self.new (P.pages store.old) (P.pages store.new)) }
-        ensures written { OnOk result (PutsOut self.old.outs self.new.outs (P.writes store.old)
-            (P.writes store.new)) }
-        ensures store { UsesStore (P.pages store.old) (P.pages store.new) (P.faults store.old)
-            (P.faults store.new) result }
+    /// Carries a transaction out in the frame in which its page stands, which comes to the front. Answers whether there is
+    /// one; where there is none, nothing changes.
+    fn carry_out_there(&mut self, access: &Access) -> bool
+        requires { MayCarry access.now self.old }
+        ensures { IsTried access.now result self.old self.new }
     {
-        // That no page stands in two frames is told with their number.
-        prove!(self.cache.len() <= self.cache.cap().get());
-        match self.cache.pop(&page) {
-            Some(frame) => Ok(frame),
-            None => self.come_in(store, image, page),
+        match self.cache.get_mut(&(access.addr / PAGE_BYTES)) {
+            Some(frame) => {
+                work(frame, access);
+                true
+            }
+            None => false,
         }
     }
 
-    /// Puts a frame back, at the front.
-    fn put_back(&mut self, page: u32, frame: Frame) -> Result<(), PageEnd>
+    /// Puts the frame of a page in front.
+    fn put_in_front(&mut self, page: u32, frame: Frame) -> Result<(), PageEnd>
         requires { HasPlace page self.old }
-        ensures back { OnOk result (IsPutBack page frame self.old self.new) }
+        ensures front { OnOk result (IsPutInFront page frame self.old self.new) }
         ensures memory { IsErrOf result StoreFault → ⊥ }
     {
         match self.cache.put(page, frame) {
@@ -212,17 +194,20 @@ impl Frames {
         access: &Access,
     ) -> Result<(), PageEnd>
         requires word { IsWordAccess access.now }
-        requires within { IsWithin most_counted self.old }
+        requires within { AreWithin most_counted self.old }
         ensures carried { OnOk result (AreCarriedOn (image_bytes image.now) (access.now ∷ [])
             self.old self.new (P.pages store.old) (P.pages store.new)) }
-        ensures written { OnOk result (PutsOut self.old.outs self.new.outs (P.writes store.old)
-            (P.writes store.new)) }
-        ensures store { UsesStore (P.pages store.old) (P.pages store.new) (P.faults store.old)
+        ensures store { PutsPages self.old.outs self.new.outs (P.pages store.old)
+            (P.pages store.new) (P.writes store.old) (P.writes store.new) (P.faults store.old)
             (P.faults store.new) result }
     {
+        if self.carry_out_there(access) {
+            return Ok(());
+        }
         let page = access.addr / PAGE_BYTES;
-        let frame = self.take(store, image, page)?;
-        self.put_back(page, worked(frame, access))
+        let mut frame = self.come_in(store, image, page)?;
+        work(&mut frame, access);
+        self.put_in_front(page, frame)
     }
 
     /// Carries the transactions of some words out, in order.
@@ -234,12 +219,11 @@ impl Frames {
     ) -> Result<(), PageEnd>
         requires made { All IsWordTriple words.now }
         requires few { length words.now ≤ most_pending }
-        requires within { IsWithin (most_counted - most_pending) self.old }
+        requires within { AreWithin (most_counted - most_pending) self.old }
         ensures carried { OnOk result (AreCarriedOn (image_bytes image.now)
             (map access_in words.now) self.old self.new (P.pages store.old) (P.pages store.new)) }
-        ensures written { OnOk result (PutsOut self.old.outs self.new.outs (P.writes store.old)
-            (P.writes store.new)) }
-        ensures store { UsesStore (P.pages store.old) (P.pages store.new) (P.faults store.old)
+        ensures store { PutsPages self.old.outs self.new.outs (P.pages store.old)
+            (P.pages store.new) (P.writes store.old) (P.writes store.new) (P.faults store.old)
             (P.faults store.new) result }
     {
         for triple in words {
@@ -253,9 +237,8 @@ impl Frames {
         requires { MayFlush self.old }
         ensures flushed { OnOk result (AreFlushed self.old self.new (P.pages store.old)
             (P.pages store.new)) }
-        ensures written { OnOk result (PutsOut self.old.outs self.new.outs (P.writes store.old)
-            (P.writes store.new)) }
-        ensures store { UsesStore (P.pages store.old) (P.pages store.new) (P.faults store.old)
+        ensures store { PutsPages self.old.outs self.new.outs (P.pages store.old)
+            (P.pages store.new) (P.writes store.old) (P.writes store.new) (P.faults store.old)
             (P.faults store.new) result }
     {
         while self.cache.len() > 0 {
@@ -265,18 +248,16 @@ impl Frames {
     }
 }
 
-/// The frame of a page after an access to it: where it writes, its word is changed, and the frame is dirty.
-fn worked(mut frame: Frame, access: &Access) -> Frame
-    requires size { length frame.bytes.items ≡ page_bytes }
-    requires word { IsWordAccess access.now }
-    ensures { IsWorked access.now frame result }
+/// Works an access on the frame of its page: where it writes, its word is changed, and the frame is dirty.
+fn work(frame: &mut Frame, access: &Access)
+    requires { MayWork access.now frame.old }
+    ensures { IsWorked access.now frame.old frame.new }
 {
     if !access.write {
-        return frame;
+        return;
     }
     let place = (access.addr % PAGE_BYTES) as usize;
     let word = merge(access.en, access.value, word_at(&frame.bytes, place));
     put_word(frame.bytes.as_mut_slice(), place, word);
     frame.dirty = true;
-    frame
 }

@@ -15,7 +15,8 @@ use std::alloc::Global;
 use std::collections::BTreeMap;
 use std::marker::Model;
 
-/// A store of pages in memory. It fails in chosen calls.
+/// A store of pages in memory. It fails in chosen calls. A write answers that there is no memory, and changes no page,
+/// where there is none for its page, or where 2^64 - 1 pages were put in before it.
 #[derive(Drop, Debug)]
 pub struct MemStore {
     alloc: Global,
@@ -107,8 +108,9 @@ impl PageStore for MemStore {
 
     fn write(&mut self, page: u32, bytes: &[u8]) -> Result<(), StoreError>
         requires { IsPageOf page bytes.now }
-        ensures written { IsPageWritten (Some self.old.held) (Some self.new.held) (Some self.old.writes)
-            (Some self.new.writes) self.old.faults self.new.faults page bytes.now result }
+        ensures written { IsPageWritten (Some self.old.held) (Some self.new.held)
+            (Some self.old.writes) (Some self.new.writes) self.old.faults self.new.faults page
+            bytes.now result }
         ensures counts { IsCallCounted self.old self.new result }
     {
         self.count()?;

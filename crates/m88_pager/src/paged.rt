@@ -29,9 +29,9 @@ pub enum PageEnd {
 
 impl From<StoreError> for PageEnd {
     ghost use Rattle.std.specs.Prelude.{◌≡◌};
-    ghost use Rattle.m88_pager.specs.Ends.{end_of};
+    ghost use Rattle.m88_pager.specs.Ends.{end_by_store};
 
-    ghost from_gives = { λ error end. end ≡ end_of error };
+    ghost from_gives = { λ error end. end ≡ end_by_store error };
 
     fn from(error: StoreError) -> PageEnd {
         match error {

@@ -2,21 +2,16 @@
 
 ghost use Rattle.std.specs.Prelude.{ℕ, Bool, ◌≡◌, ◌≤◌, ◌+◌, ◌*◌, false, length, IfOk, OnOk};
 ghost use Rattle.std.specs.NonZero.{non_zero_usize_get};
-ghost use Rattle.m88_event.specs.Local.{is_over_by};
 ghost use Rattle.m88_event.specs.Run.{IsOutcome};
-ghost use Rattle.m88_event.specs.Timeline.{Moment};
 ghost use Rattle.m88_event.specs.declared.outcome.Outcome.{Outcome as OutcomeValue};
 ghost use Rattle.m88_isa.specs.ImageProgram.{IsProgramOf};
 ghost use Rattle.m88_isa.specs.Machine.{Program};
 ghost use Rattle.m88_mem.specs.DataBus.{image_bytes};
 ghost use Rattle.m88_mem.specs.Marks.{NamesPages, absent_in};
-ghost use Rattle.m88_board.specs.Board.{local_of};
 ghost use Rattle.m88_board.specs.Kept.{most_retired};
-ghost use Rattle.m88_board.specs.Moves.{IsAt};
 ghost use Rattle.m88_pager.specs.Ends.{UsesStore};
-ghost use Rattle.m88_pager.specs.Inside.Calls.{PutsOut};
-ghost use Rattle.m88_pager.specs.Inside.Came.{HasPagedStep, IsFinished};
-ghost use Rattle.m88_pager.specs.Inside.Seen.{IsWithin};
+ghost use Rattle.m88_pager.specs.Inside.Calls.{PutsPages};
+ghost use Rattle.m88_pager.specs.Inside.Came.{HasPagedStep, IsFinished, MayFinish, MayStep};
 ghost use Rattle.m88_pager.specs.Paged.{HoldsNoneWhereTold, IsPagedRun, most_frames};
 
 use crate::changed::changed_words;
@@ -88,16 +83,11 @@ fn step<P: PageStore>(
     store: &mut P,
     image: &Image,
 ) -> Result<(), PageEnd>
-    requires going { is_over_by walk.old.board.now.limit (local_of walk.old.board.now) ≡ false }
-    requires there { (p : Program) × (named : ℕ → Bool) × (m : Moment)
-        × IsAt p named m walk.old.board.now }
-    requires within { IsWithin walk.old.board.now.done paging.old }
+    requires { MayStep walk.old.board.now paging.old }
     ensures stepped { OnOk result (HasPagedStep (image_bytes image.now) walk.old walk.new paging.old
         paging.new (P.pages store.old) (P.pages store.new)) }
-    ensures written { OnOk result (PutsOut paging.old.outs paging.new.outs (P.writes store.old)
-        (P.writes store.new)) }
-    ensures store { UsesStore (P.pages store.old) (P.pages store.new) (P.faults store.old)
-        (P.faults store.new) result }
+    ensures store { PutsPages paging.old.outs paging.new.outs (P.pages store.old) (P.pages store.new)
+        (P.writes store.old) (P.writes store.new) (P.faults store.old) (P.faults store.new) result }
 {
     let board = walk.board();
     // What always holds of a board is told with its events.
@@ -117,8 +107,7 @@ fn finish<P: PageStore>(
     store: &mut P,
     image: &Image,
 ) -> Result<Paged, PageEnd>
-    requires within { IsWithin board.done paging }
-    requires cap { paging.cache.cap ≤ most_frames }
+    requires { MayFinish board paging }
     ensures finished { IfOk result (IsFinished image.now board paging (P.pages store.old)
         (P.pages store.new) (P.writes store.old) (P.writes store.new)) }
     ensures store { UsesStore (P.pages store.old) (P.pages store.new) (P.faults store.old)

@@ -18,7 +18,8 @@ pub enum StoreError {
     Memory,
 }
 
-/// A store of pages of 4,096 bytes by their numbers, each at most 0xFFFFF.
+/// A store of pages of 4,096 bytes by their numbers, each at most 0xFFFFF. A call that answers Ok leaves the count of its
+/// faults as it is.
 pub trait PageStore {
     // The pages that it holds, where the store tells them.
     ghost pages: { Self → Option (FinMap nat_cmp (List ℕ)) };
@@ -39,6 +40,6 @@ pub trait PageStore {
     /// Puts a page in, in place of one of this number. Where it answers an error, the pages are as before.
     fn write(&mut self, page: u32, bytes: &[u8]) -> Result<(), StoreError>
         requires { IsPageOf page bytes.now }
-        ensures { IsPageWritten (pages self.old) (pages self.new) (writes self.old) (writes self.new)
-            (faults self.old) (faults self.new) page bytes.now result };
+        ensures { IsPageWritten (pages self.old) (pages self.new) (writes self.old)
+            (writes self.new) (faults self.old) (faults self.new) page bytes.now result };
 }

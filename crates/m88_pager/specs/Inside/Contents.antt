@@ -24,13 +24,13 @@ is_dirty_in [] page = false
 is_dirty_in (e ∷ entries) page = e.0 == page && e.1.dirty || is_dirty_in entries page
 
 -- one page changed
-abbrev pub with_page : ℕ → List ℕ → (ℕ → List ℕ) → ℕ → List ℕ
-with_page page bytes pages q = if page == q then bytes else pages q
+abbrev pub with_new_page : ℕ → List ℕ → (ℕ → List ℕ) → ℕ → List ℕ
+with_new_page page bytes pages q = if page == q then bytes else pages q
 
 -- frames before a store stand for pages of memory, of which some are written: seen through the frames, the pages are
 -- those of memory; a clean frame can be dropped; the pages that are written are those that the store holds or that are
 -- dirty; and the store holds those of a set
-pub record StandsFor (original memory : ℕ → List ℕ) (written held : ℕ → Bool) (entries : List (ℕ × Frame))
+pub record StandForMemory (original memory : ℕ → List ℕ) (written held : ℕ → Bool) (entries : List (ℕ × Frame))
     (pages : PageMap) : Type 0 where
   pub same : over entries (behind original pages) ≡ memory
   pub clean : AreClean entries (behind original pages)
@@ -38,6 +38,6 @@ pub record StandsFor (original memory : ℕ → List ℕ) (written held : ℕ �
   pub held_are : (page : ℕ) → is_some (get pages page) ≡ held page
 
 -- they do so where the store tells its pages
-abbrev pub Stands : (ℕ → List ℕ) → (ℕ → List ℕ) → (ℕ → Bool) → (ℕ → Bool) → List (ℕ × Frame) → Option PageMap → Type 0
-Stands original memory written held entries None = Unit {0}
-Stands original memory written held entries (Some pages) = StandsFor original memory written held entries pages
+abbrev pub StandWhereTold : (ℕ → List ℕ) → (ℕ → List ℕ) → (ℕ → Bool) → (ℕ → Bool) → List (ℕ × Frame) → Option PageMap → Type 0
+StandWhereTold original memory written held entries None = Unit {0}
+StandWhereTold original memory written held entries (Some pages) = StandForMemory original memory written held entries pages

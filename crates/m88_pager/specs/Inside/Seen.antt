@@ -11,31 +11,31 @@ use Rattle.m88_base.specs.declared.triple.Triple.{Triple}
 use Rattle.m88_isa.specs.declared.planned.Access.{Access}
 use Rattle.m88_pager.specs.Frames.{Frames as FramesSeen, frames_after, no_frames}
 use Rattle.m88_pager.specs.Inside.Bytes.{in_bytes}
-use Rattle.m88_pager.specs.Inside.Contents.{Stands, behind}
+use Rattle.m88_pager.specs.Inside.Contents.{StandWhereTold, behind}
 use Rattle.m88_pager.specs.Pages.{page_of, writes_page}
 use Rattle.m88_pager.specs.Store.{IsPageOf, PageMap}
 use Rattle.m88_pager.specs.declared.frames.Frame.{Frame}
 use Rattle.m88_pager.specs.declared.frames.Frames.{Frames}
 
 -- a page with its mark
-abbrev pub marked : ℕ × Frame → ℕ × Bool
-marked e = (e.0, e.1.dirty)
+abbrev pub with_mark : ℕ × Frame → ℕ × Bool
+with_mark e = (e.0, e.1.dirty)
 
 -- frames as their definition has them
 abbrev pub seen_of : Frames → FramesSeen
-seen_of f = record { pages = map marked f.cache.entries; ins = f.ins; outs = f.outs }
+seen_of f = record { pages = map with_mark f.cache.entries; ins = f.ins; outs = f.outs }
 
 -- the same with one more at the front, which is taken out
 abbrev pub seen_with : ℕ → Frame → Frames → FramesSeen
 seen_with page frame f = record {
-  pages = marked (page, frame) ∷ map marked f.cache.entries;
+  pages = with_mark (page, frame) ∷ map with_mark f.cache.entries;
   ins = f.ins;
   outs = f.outs;
 }
 
 -- a page by its number, with all of its bytes
-abbrev pub IsWhole : ℕ × Frame → Type 0
-IsWhole e = IsPageOf e.0 e.1.bytes.items
+abbrev pub IsWholePage : ℕ × Frame → Type 0
+IsWholePage e = IsPageOf e.0 e.1.bytes.items
 
 -- the pages that were written to the store
 abbrev pub held_by : Frames → ℕ → Bool
@@ -51,8 +51,8 @@ abbrev pub StillStands :
     → Type 0
 StillStands original held entries told held' entries' told' =
     (memory : ℕ → List ℕ) (written : ℕ → Bool)
-    → Stands original memory written held entries told
-    → Stands original memory written held' entries' told'
+    → StandWhereTold original memory written held entries told
+    → StandWhereTold original memory written held' entries' told'
 
 -- bytes are those that stand behind the frames for a page, where the store tells its pages and holds those of a set
 abbrev pub ComesFrom : (ℕ → List ℕ) → (ℕ → Bool) → Option PageMap → ℕ → List ℕ → Type 0
@@ -65,16 +65,16 @@ ComesFrom original held (Some pages) page bytes =
 pub record AreCarried (original : ℕ → ℕ) (most : ℕ) (accesses : List Access) (f : Frames) (told : Option PageMap) :
     Type 0 where
   pub bytes : AreBytes original
-  pub whole : All IsWhole f.cache.entries
+  pub whole : All IsWholePage f.cache.entries
   pub cap : f.cache.cap ≡ most
   pub counts : seen_of f ≡ frames_after most accesses no_frames
   pub stands :
-      Stands (page_of original) (page_of (in_bytes (bus_after_all accesses (in_words original)))) (writes_page accesses)
+      StandWhereTold (page_of original) (page_of (in_bytes (bus_after_all accesses (in_words original)))) (writes_page accesses)
       (held_by f) f.cache.entries told
 
 -- all pages are whole, and no more came in or went out than so many
-pub record IsWithin (most : ℕ) (f : Frames) : Type 0 where
-  pub whole : All IsWhole f.cache.entries
+pub record AreWithin (most : ℕ) (f : Frames) : Type 0 where
+  pub whole : All IsWholePage f.cache.entries
   pub ins : f.ins ≤ most
   pub outs : f.outs ≤ most
 

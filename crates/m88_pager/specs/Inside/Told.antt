@@ -4,15 +4,20 @@ use Rattle.m88_base.specs.Pages.{IsPage}
 use Rattle.m88_isa.specs.Bus.{changed_among, in_words}
 use Rattle.m88_isa.specs.Lanes.{AreBytes}
 use Rattle.m88_pager.specs.Inside.Bytes.{AreWords, in_bytes}
-use Rattle.m88_pager.specs.Inside.Contents.{StandsFor}
+use Rattle.m88_pager.specs.Inside.Contents.{StandForMemory}
 use Rattle.m88_pager.specs.Pages.{page_of}
-use Rattle.m88_pager.specs.Store.{PageMap}
+use Rattle.m88_pager.specs.Store.{IsPageOf, PageMap}
 
 -- it tells its pages, which stand for memory by words
 abbrev pub StandsAlone : (ℕ → ℕ) → (ℕ → ℕ) → (ℕ → Bool) → (ℕ → Bool) → Option PageMap → Type 0
 StandsAlone original bus written held None = ⊥
 StandsAlone original bus written held (Some pages) =
-    StandsFor (page_of original) (page_of (in_bytes bus)) written held [] pages
+    StandForMemory (page_of original) (page_of (in_bytes bus)) written held [] pages
+
+-- the bytes of a page before a run and after it
+pub record ArePagesOf (page : ℕ) (old new : List ℕ) : Type 0 where
+  pub before : IsPageOf page old
+  pub after : IsPageOf page new
 
 -- words are those that changed among the first so many, where it does
 abbrev pub AreChanged : (ℕ → ℕ) → (ℕ → Bool) → Option PageMap → ℕ → List (ℕ × ℕ) → Type 0

@@ -15,23 +15,23 @@ read-requires g c = record {
   size = ap length (c.as_mut_slice.ensures.value ∙ c.in_ok-after.ensures) ∙ page_length (image_bytes c.args.image.now) c.args.page;
 }
 
-pub append_changed-requires-clause-before : goal.append_changed-requires-clause-before
-append_changed-requires-clause-before g c = record {
-  number = c.requires;
-  size = ap length (c.deref.ensures.value ∙ c.in_ok-before.ensures) ∙ page_length (image_bytes c.args.image.now) c.args.page;
-}
-
-pub append_changed-requires-clause-after : goal.append_changed-requires-clause-after
-append_changed-requires-clause-after g c =
+pub append_changed-requires : goal.append_changed-requires
+append_changed-requires g c =
     let old = c.in_ok-after.after in
     let same : length c.read.new.into ≡ length old.items = c.read.auto.into ∙ ap length c.as_mut_slice.ensures.value in
     record {
-      number = c.requires;
-      size =
-          ap length (c.deref-2.ensures.value ∙ all_written old.len old.items c.read.new.into (omega (arith, old.ok.0)) same)
-          ∙ same
-          ∙ ap length c.in_ok-after.ensures
-          ∙ page_length (image_bytes c.args.image.now) c.args.page;
+      before = record {
+        number = c.requires;
+        size = ap length (c.deref.ensures.value ∙ c.in_ok-before.ensures) ∙ page_length (image_bytes c.args.image.now) c.args.page;
+      };
+      after = record {
+        number = c.requires;
+        size =
+            ap length (c.deref-2.ensures.value ∙ all_written old.len old.items c.read.new.into (omega (arith, old.ok.0)) same)
+            ∙ same
+            ∙ ap length c.in_ok-after.ensures
+            ∙ page_length (image_bytes c.args.image.now) c.args.page;
+      };
     }
 
 pub returns-clause-changed : goal.returns-clause-changed

@@ -25,5 +25,5 @@ returns-clause-finished g c =
       events = c.in_ok-outcome.ensures.events;
       written =
           subst (PutsOut c.args.paging.outs flushed.outs (g.P.PageStore.writes c.args.store.now))
-          (sym c.in_ok-changed.ensures.store.unwritten) c.in_ok-flush.ensures.written;
+          (sym c.in_ok-changed.ensures.store.unwritten) c.in_ok-flush.ensures.store.written;
     }

@@ -58,26 +58,28 @@ loop-walk-preserved g c =
       lender = stepped.stays.lender ∙ inv.lender;
       within = stepped.within;
       cap = stepped.carried.cap ∙ inv.cap;
-      tells = c.step.ensures.store.tells ∙ inv.tells;
-      clean = c.in_ok-step.ensures.store.clean ∙ inv.clean;
-      written = then_put 0 _ _ _ _ _ inv.written c.in_ok-step.ensures.written;
+      tells = c.step.ensures.store.uses.tells ∙ inv.tells;
+      clean = c.in_ok-step.ensures.store.uses.clean ∙ inv.clean;
+      written = then_put 0 _ _ _ _ _ inv.written c.in_ok-step.ensures.store.written;
       there = λ p of clear.
           there_next inv.limit inv.schedule stepped.taken goes (inv.there p of clear)
           (λ m at. stepped.at p (absent_in c.args.absent.now) m at) (stepped.carried.carried c.args.frames);
     }
 
-pub step-requires-clause-going : goal.step-requires-clause-going
-step-requires-clause-going g c = over_shown c.board-in-loop-walk.ensures c.is_over.ensures.value ∙ c.loop-walk-test.true
-
-pub step-requires-clause-there : goal.step-requires-clause-there
-step-requires-clause-there g c =
+pub step-requires : goal.step-requires
+step-requires g c =
     let p = c.new.ensures.program.0 in
-    let named = absent_in c.args.absent.now in (
-      p,
-      named,
-      moment_after p named c.args.limit c.args.schedule.now c.loop-walk.walk.taken,
-      (c.loop-walk.invariant.there p c.new.ensures.program.1 c.new.ensures.program.2).at,
-    )
+    let named = absent_in c.args.absent.now in
+    record {
+      going = over_shown c.board-in-loop-walk.ensures c.is_over.ensures.value ∙ c.loop-walk-test.true;
+      there = (
+        p,
+        named,
+        moment_after p named c.args.limit c.args.schedule.now c.loop-walk.walk.taken,
+        (c.loop-walk.invariant.there p c.new.ensures.program.1 c.new.ensures.program.2).at,
+      );
+      within = c.loop-walk.invariant.within;
+    }
 
 pub returns-clause-run : goal.returns-clause-run
 returns-clause-run g c = IfOk-weaker c.finish.result _ _

@@ -8,7 +8,7 @@ use Rattle.m88_mem.specs.Marks.{absent_in}
 use Rattle.m88_board.specs.Board.{local_of}
 use Rattle.m88_pager.proofs.Walking.{IsThere}
 use Rattle.m88_pager.specs.Inside.Calls.{PutsOut}
-use Rattle.m88_pager.specs.Inside.Seen.{IsWithin}
+use Rattle.m88_pager.specs.Inside.Seen.{AreWithin}
 use Rattle.m88_pager.proofs.running.page_run.Given as goal
 
 abbrev pub invariant-loop-walk : goal.invariant-loop-walk
@@ -16,7 +16,7 @@ invariant-loop-walk g l = record {
   limit : l.walk.board.now.limit ≡ l.limit;
   schedule : l.walk.schedule.now ≡ l.fn.schedule;
   lender : l.walk.board.ghost_name ≡ l.initial.walk.board.ghost_name;
-  within : IsWithin l.walk.board.now.done l.paging;
+  within : AreWithin l.walk.board.now.done l.paging;
   cap : l.paging.cache.cap ≡ l.frames;
   tells : is_some (g.P.PageStore.pages l.store) ≡ is_some (g.P.PageStore.pages l.initial.store);
   clean : g.P.PageStore.faults l.store ≡ g.P.PageStore.faults l.initial.store;

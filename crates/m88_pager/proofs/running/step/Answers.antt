@@ -7,7 +7,7 @@ use Rattle.m88_isa.specs.declared.planned.Access.{Access}
 use Rattle.m88_mem.specs.DataBus.{image_bytes}
 use Rattle.m88_pager.proofs.Walking.{done_shown}
 use Rattle.m88_pager.specs.Inside.Calls.{AreCarriedOn}
-use Rattle.m88_pager.specs.Inside.Seen.{IsWithin}
+use Rattle.m88_pager.specs.Inside.Seen.{AreWithin}
 use Rattle.m88_pager.proofs.running.step.Goals as goal
 
 pub overflow_sub-count : goal.overflow_sub-count
@@ -57,7 +57,7 @@ returns-clause-stepped g c =
       taken = c.in_ok-next.ensures.goes.takes.taken;
       lighter = c.in_ok-next.ensures.goes.takes.lighter;
       stays = c.in_ok-next.ensures.goes.takes.stays;
-      within = subst (λ (n : ℕ). IsWithin n c.carry_all.new.self) done.long (carried.within walk.board.now.done c.requires.within);
+      within = subst (λ (n : ℕ). AreWithin n c.carry_all.new.self) done.long (carried.within walk.board.now.done c.requires.within);
       carried = carried;
     })
     c.carry_all.ensures.carried

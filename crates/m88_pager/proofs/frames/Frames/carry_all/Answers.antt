@@ -48,9 +48,9 @@ loop-triple-preserved g c =
           (g.P.PageStore.pages c.args.store.now) (g.P.PageStore.pages c.carry_out.new.store))
           (one_mapped c.args.words.now k _ c.access_in.result c.loop-triple-test.true c.access_in.ensures)
           (on_and_on (map access_in (take k c.args.words.now)) (c.access_in.result ∷ []) inv.carried c.in_ok-carry_out.ensures.carried);
-      tells = c.carry_out.ensures.store.tells ∙ inv.tells;
-      clean = c.in_ok-carry_out.ensures.store.clean ∙ inv.clean;
-      written = then_put _ _ _ _ _ _ inv.written c.in_ok-carry_out.ensures.written;
+      tells = c.carry_out.ensures.store.uses.tells ∙ inv.tells;
+      clean = c.in_ok-carry_out.ensures.store.uses.clean ∙ inv.clean;
+      written = then_put _ _ _ _ _ _ inv.written c.in_ok-carry_out.ensures.store.written;
     }
 
 pub returns-clause-carried : goal.returns-clause-carried

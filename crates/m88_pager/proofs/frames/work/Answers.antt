@@ -4,11 +4,11 @@ use Rattle.std.proofs.Common.{arith, ap, refl, ◌∙◌}
 use Rattle.std.specs.Int.{from_be_bytes, to_be_bytes, w32}
 use Rattle.m88_pager.proofs.Coming.{all_written}
 use Rattle.m88_pager.proofs.Words.{stored_page}
-use Rattle.m88_pager.proofs.frames.worked.Goals as goal
+use Rattle.m88_pager.proofs.frames.work.Goals as goal
 
 pub returns : goal.returns
 returns c =
-    let old = c.args.frame.bytes in
+    let old = c.args.frame.now.bytes in
     let a = c.args.access.now in
     let same : length c.put_word.new.bytes ≡ length old.items = c.put_word.auto.bytes ∙ ap length c.as_mut_slice.ensures.value in
     let whole = all_written old.len old.items c.put_word.new.bytes (omega (arith, old.ok.0)) same in
