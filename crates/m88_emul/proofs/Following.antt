@@ -24,7 +24,7 @@ use Rattle.m88_emul.proofs.InWords.{IsSingle, byte_is, single_deed, state_bytes,
 use Rattle.m88_emul.proofs.Mending.{bus_answered, bus_finished, bus_mended, bus_more, made_mended, made_more}
 use Rattle.m88_emul.specs.Aid.{Aid, with_all}
 use Rattle.m88_emul.specs.Extended.{Deed, IsAlone, aided, alone, bus_after_work, deed_at, deed_of, extended_bus, extended_state, mends, transacted, transactions_before, transacts, work_before}
-use Rattle.m88_emul.specs.Inside.Settled.{Stands, deed_seen, emulated_by, newly_emulated, settled, settled_by}
+use Rattle.m88_emul.specs.Inside.Settled.{LiesBehind, deed_seen, emulated_by, newly_emulated, settled, settled_by}
 use Rattle.m88_emul.specs.Timeline.{ExtendedMoment, after_chosen, after_event, after_stop, extended_end, extended_pending, has_place_in, last_retired, seen_at}
 use Rattle.m88_emul.specs.declared.emulation.Emulation.{Emulation}
 
@@ -229,7 +229,7 @@ split_drop (suc done) [] = refl
 split_drop (suc done) (x ∷ xs) = split_drop done xs
 
 -- a turn that goes on, made by the machine alone
-goes_by : (p : Program) (named : ℕ → Bool) (x : ExtendedMoment) (t : Turn) (bubble : Bool) → IsProgram p → Stands p x.moment →
+goes_by : (p : Program) (named : ℕ → Bool) (x : ExtendedMoment) (t : Turn) (bubble : Bool) → IsProgram p → LiesBehind p x.moment →
     turn_at p (extended_state p x.moment.retired) ≡ t → deed_at p (extended_state p x.moment.retired) ≡ alone t → x.moment.ended ≡ false →
     (before : Deed) (after : List Access) → after ≡ drop x.moment.done (transactions_before p (x.moment.retired + 1)) →
     settled_by (extended_end p x.moment) before (record (seen_at p named x.moment) {
@@ -263,7 +263,7 @@ goes_by p named x t bubble is stands e d lives before after pending =
       records = m.records;
     })
 
-by_choice : (p : Program) (named : ℕ → Bool) (x : ExtendedMoment) (choice : Choice) (fault : Record) → IsProgram p → Stands p x.moment →
+by_choice : (p : Program) (named : ℕ → Bool) (x : ExtendedMoment) (choice : Choice) (fault : Record) → IsProgram p → LiesBehind p x.moment →
     Fits p x.moment choice →
     settled p (move_by choice fault (seen_at p named x.moment)) ≡ seen_at p named (after_chosen p choice fault x).moment
 unfolding settled seen_at completed_state
@@ -342,7 +342,7 @@ counted_by None d l = refl
 counted_by (Some end) (alone t) l = refl
 counted_by (Some end) (aided vector aid) l = refl
 
-pub law : (p : Program) (named : ℕ → Bool) (limit : ℕ) (letter : Letter) (x : ExtendedMoment) → IsProgram p → Stands p x.moment →
+pub law : (p : Program) (named : ℕ → Bool) (limit : ℕ) (letter : Letter) (x : ExtendedMoment) → IsProgram p → LiesBehind p x.moment →
     settled p (move p limit letter (seen_at p named x.moment)) ≡ seen_at p named (after_event p named limit letter x).moment
 unfolding move after_event settled seen_at
 law p named limit letter x is stands =
@@ -358,7 +358,7 @@ none_new xs None d l h = append-nil xs
 none_new xs (Some end) (alone t) l h = append-nil xs
 none_new xs (Some end) (aided vector aid) l h = absurd h
 
-unaided : (p : Program) (named : ℕ → Bool) (m : Moment) → IsProgram p → Stands p m →
+unaided : (p : Program) (named : ℕ → Bool) (m : Moment) → IsProgram p → LiesBehind p m →
     NoAid (extended_end p m) (deed_seen p (seen_at p named m))
 unaided p named m is stands =
     subst (NoAid (extended_end p m)) (sym (seen_deed p named m is)) (no_aid m.ended _ _ stands.ended)
@@ -371,7 +371,7 @@ joins_stop p named x end (alone t) = append-nil x.emulated
 joins_stop p named x end (aided vector aid) = refl
 
 joins_choice : (p : Program) (named : ℕ → Bool) (x : ExtendedMoment) (choice : Choice) (fault : Record) → IsProgram p →
-    Stands p x.moment → Fits p x.moment choice →
+    LiesBehind p x.moment → Fits p x.moment choice →
     x.emulated ++ newly_emulated p (with_move_counted (move_by choice fault (seen_at p named x.moment)))
     ≡ (after_chosen p choice fault x).emulated
 unfolding newly_emulated seen_at completed_state
@@ -389,7 +389,7 @@ joins_choice p named x replies fault is stands fit = none_new x.emulated _ _ _ (
 joins_choice p named x faults fault is stands fit = none_new x.emulated _ _ _ (unaided p named x.moment is stands)
 joins_choice p named x evicts fault is stands fit = none_new x.emulated _ _ _ (unaided p named x.moment is stands)
 
-pub joins : (p : Program) (named : ℕ → Bool) (limit : ℕ) (letter : Letter) (x : ExtendedMoment) → IsProgram p → Stands p x.moment →
+pub joins : (p : Program) (named : ℕ → Bool) (limit : ℕ) (letter : Letter) (x : ExtendedMoment) → IsProgram p → LiesBehind p x.moment →
     x.emulated ++ newly_emulated p (move p limit letter (seen_at p named x.moment)) ≡ (after_event p named limit letter x).emulated
 unfolding move after_event
 joins p named limit letter x is stands =

@@ -30,8 +30,8 @@ use Rattle.m88_isa.specs.declared.instr.Instr.{Instr}
 use Rattle.m88_isa.specs.declared.planned.Access.{Access}
 use Rattle.m88_mem.specs.DataBus.{MemoryView, absent_of, bus_of, image_bus}
 use Rattle.m88_iunit.specs.Pointers.{Pointers}
-use Rattle.m88_scoreboard.specs.Registers.{Registers, none_waits, waiting_of}
-use Rattle.m88_board.proofs.Laws.{none_wait, same_bytes}
+use Rattle.m88_scoreboard.specs.Registers.{Registers}
+use Rattle.m88_board.proofs.Laws.{same_bytes}
 use Rattle.m88_event.specs.Run.{outcome_by}
 use Rattle.m88_event.specs.declared.outcome.Outcome.{Outcome}
 use Rattle.m88_board.specs.Board.{BoardView, completed_of, local_of, next_of, pc_of}
@@ -44,7 +44,7 @@ use Rattle.m88_emul.proofs.Weighing.{still_lives}
 use Rattle.m88_emul.specs.Aid.{Aid, aid_of, with_all}
 use Rattle.m88_emul.specs.Emulating.{IsAided}
 use Rattle.m88_emul.specs.Extended.{Deed, IsAlone, aid_at, aided, byte_seen, deed_of, where_aided}
-use Rattle.m88_emul.specs.Inside.Boards.{KeepsRun, one_more, vector_in}
+use Rattle.m88_emul.specs.Inside.Boards.{KeepsRun, with_one_retired, vector_in}
 use Rattle.m88_emul.specs.Inside.Settled.{completed_by, deed_seen, emulated_by, newly_emulated, settled, settled_by}
 use Rattle.m88_emul.specs.Inside.Tasks.{aid_by}
 use Rattle.m88_emul.specs.Timeline.{has_place_in}
@@ -291,7 +291,7 @@ zeros_stay (w ∷ writes) regs first = zeros_stay writes (with_register w.0 w.1 
 -- another board may begin behind the instruction
 pub may_go_on : (parts : Parts) (regs : List ℕ) (memory : MemoryView) (limit : ℕ) → MayBegin parts limit → parts.retired < limit →
     slice_index regs 0 ≡ 0 →
-    MayBegin (one_more (record parts { regs = regs; memory = memory })) limit
+    MayBegin (with_one_retired (record parts { regs = regs; memory = memory })) limit
 may_go_on parts regs memory limit may early first =
     let next = may.next in
     let made = may.made in
@@ -312,7 +312,7 @@ may_go_on parts regs memory limit may early first =
 -- and looks as software left it
 pub goes_on_so : (parts : Parts) (regs : List ℕ) (memory : MemoryView) (aid : Aid) (l : Local) → seen_of_parts parts ≡ record l { ended = None } →
     IsAided aid parts.regs regs parts.memory memory →
-    seen_of_parts (one_more (record parts { regs = regs; memory = memory })) ≡ completed_by aid l
+    seen_of_parts (with_one_retired (record parts { regs = regs; memory = memory })) ≡ completed_by aid l
 unfolding seen_of_parts
 goes_on_so parts regs memory aid l seen is =
     let regs_is : regs ≡ with_all aid.writes l.completed.regs = is.regs ∙ ap (λ (x : Local). with_all aid.writes x.completed.regs) seen in
@@ -357,16 +357,13 @@ goes_on_so parts regs memory aid l seen is =
       records = records i;
     }
 
--- whether a word has an aid, by what was found
-pub aid_told : (found : Option Task) (word vector : ℕ) (regs : List ℕ) →
-    IfSome found (λ t. (i : Instr) × IsWord i word × ((bytes : ℕ → ℕ) → aid_of i vector regs bytes ≡ Some (aid_by t bytes))) →
-    (found ≡ None → (i : Instr) → IsWord i word → (bytes : ℕ → ℕ) → aid_of i vector regs bytes ≡ None) →
-    (i : Instr) → IsWord i word → (bytes : ℕ → ℕ) →
-    is_some (aid_of i vector regs bytes) ≡ is_some found
-aid_told None word vector regs some none i is bytes = ap is_some (none refl i is bytes)
-aid_told (Some t) word vector regs some none i is bytes =
-    let same : some.0 ≡ i = one_reading word some.0 i some.1 is in
-    ap is_some (ap (λ (j : Instr). aid_of j vector regs bytes) (sym same) ∙ some.2 bytes)
+-- the instruction of a word for which there is a task has an aid
+pub task_aid : (task : Task) (word vector : ℕ) (regs : List ℕ) →
+    ((i : Instr) × IsWord i word × ((bytes : ℕ → ℕ) → aid_of i vector regs bytes ≡ Some (aid_by task bytes))) →
+    (j : Instr) → IsWord j word → (bytes : ℕ → ℕ) → is_some (aid_of j vector regs bytes) ≡ true
+task_aid task word vector regs some j is bytes =
+    let same : some.0 ≡ j = one_reading word some.0 j some.1 is in
+    ap is_some (ap (λ (k : Instr). aid_of k vector regs bytes) (sym same) ∙ some.2 bytes)
 
 -- one word has one aid
 pub same_aid : (i j : Instr) (word vector : ℕ) (regs others : List ℕ) (memory bytes : ℕ → ℕ) (a b : Aid) → IsWord i word → IsWord j word →
@@ -379,9 +376,6 @@ same_aid i j word vector regs others memory bytes a b is js same_regs same_memor
     ∙ ap (λ (k : Instr). aid_of k vector regs memory) same
     ∙ ap₂ (λ (xs : List ℕ) (m : ℕ → ℕ). aid_of j vector xs m) same_regs same_memory
     ∙ two in cc
-
-pub parts_regs : (parts : Parts) (b : BoardView) → parts ≡ parts_of b → parts.regs ≡ b.file.numbers
-parts_regs parts b e = ap (λ (x : Parts). x.regs) e
 
 pub parts_bytes : (parts : Parts) (b : BoardView) → parts ≡ parts_of b → byte_seen (bus_of parts.memory) ≡ byte_seen (bus_of b.memory)
 parts_bytes parts b e = ap (λ (x : Parts). byte_seen (bus_of x.memory)) e
@@ -406,12 +400,9 @@ ok_then (Err e) h f = tt
 pub keeps_run : {limit : ℕ} (b : BoardView) → b.limit ≡ limit → mxm_of b.control ≡ false → KeepsRun limit b b
 keeps_run b limit clear = record { limit_is = limit; image = refl; clear = clear; counted = refl }
 
--- the values of the registers
-pub values_are : (b : BoardView) (values : List ℕ) (file : Registers) → IsKept b → b.pending ≡ [] → file ≡ b.file →
-    (waiting_of file ≡ none_waits → values ≡ file.numbers) →
-    values ≡ b.file.numbers
-values_are b values file kept none same whole =
-    whole (ap waiting_of same ∙ none_wait b kept none) ∙ ap (λ (f : Registers). f.numbers) same
+-- what the registers hold
+pub numbers_are : (b : BoardView) (numbers : List ℕ) (file : Registers) → file ≡ b.file → numbers ≡ file.numbers → numbers ≡ b.file.numbers
+numbers_are b numbers file same is = is ∙ ap (λ (f : Registers). f.numbers) same
 
 -- by what the board shows: a word that can't be fetched, one without an aid, one with an aid
 pub unread_no_aid : (p : Program) (b : BoardView) (vector at place : ℕ) → IsProgramOf b.memory.image p → IsKept b →

@@ -4,7 +4,7 @@ use Rattle.std.proofs.Common.{arith, eq-eqb, refl, ap, subst, ◌∙◌}
 use Rattle.m88_base.specs.Pages.{page_number}
 use Rattle.m88_isa.specs.Address.{after_bytes}
 use Rattle.m88_emul.specs.Aid.{places_from}
-use Rattle.m88_emul.specs.Inside.Places.{AreOpen, IsOpen}
+use Rattle.m88_emul.specs.Inside.Places.{AreOpen, IsOpenPage}
 use Rattle.m88_emul.specs.Inside.Tasks.{aid_by, stored_places, task_places}
 use Rattle.m88_emul.specs.Timeline.{has_place_in}
 use Rattle.m88_emul.specs.declared.task.Task.{Task}
@@ -20,7 +20,7 @@ either_last false b h = h
 
 -- where each page with one of them is
 pub all_open : (ready absent : ℕ → Bool) (places : List ℕ) →
-    ((page : ℕ) → has_place_in places page ≡ true → IsOpen ready absent page) →
+    ((page : ℕ) → has_place_in places page ≡ true → IsOpenPage ready absent page) →
     AreOpen ready absent places
 unfolding AreOpen has_place_in
 all_open ready absent [] each = tt

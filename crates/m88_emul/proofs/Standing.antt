@@ -16,12 +16,12 @@ use Rattle.m88_event.specs.declared.record.Record.{Record}
 use Rattle.m88_emul.proofs.Following.{Fits, aided_work, deed_goes, fits, more_work}
 use Rattle.m88_emul.proofs.Mending.{made_mended, made_more, mended_again, mended_more, mended_on}
 use Rattle.m88_emul.specs.Extended.{Deed, IsAlone, aided, alone, deed_at, extended_state, transacted, transactions_before, work_before}
-use Rattle.m88_emul.specs.Inside.Settled.{IsMended, Stands}
+use Rattle.m88_emul.specs.Inside.Settled.{IsMended, LiesBehind}
 use Rattle.m88_emul.specs.Timeline.{ExtendedMoment, after_chosen, after_event, after_stop, extended_pending, seen_at}
 
 -- one more step that the machine makes alone
-stands_alone : (p : Program) (m : Moment) (t : Turn) (bubble : Bool) → Stands p m → deed_at p (extended_state p m.retired) ≡ alone t → m.ended ≡ false →
-    Stands p (record m { retired = m.retired + 1; bubble = bubble })
+stands_alone : (p : Program) (m : Moment) (t : Turn) (bubble : Bool) → LiesBehind p m → deed_at p (extended_state p m.retired) ≡ alone t → m.ended ≡ false →
+    LiesBehind p (record m { retired = m.retired + 1; bubble = bubble })
 stands_alone p m t bubble stands d lives =
     let grown = ap transacted (more_work p m.retired t d) ∙ made_more (work_before p m.retired) (turn_accesses t) in
     let longer = ap length grown ∙ length-append (transactions_before p m.retired) (turn_accesses t) in
@@ -39,9 +39,9 @@ none_left done xs none = by_left (drop done xs) (length-drop done xs) none
     by_left [] e none = omega (arith, e)
     by_left (x ∷ rest) e none = absurd cc
 
-stands_stop : (p : Program) (x : ExtendedMoment) (d : Deed) → Stands p x.moment → deed_at p (extended_state p x.moment.retired) ≡ d →
+stands_stop : (p : Program) (x : ExtendedMoment) (d : Deed) → LiesBehind p x.moment → deed_at p (extended_state p x.moment.retired) ≡ d →
     x.moment.ended ≡ false → length (transactions_before p x.moment.retired) ≤ x.moment.done →
-    Stands p (after_stop d p x).moment
+    LiesBehind p (after_stop d p x).moment
 stands_stop p x (alone t) stands d lives all = record {
   within = stands.within;
   mended = stands.mended;
@@ -59,9 +59,9 @@ stands_stop p x (aided vector aid) stands d lives all =
       ended = λ yes. absurd cc;
     }
 
-stands_choice : (p : Program) (x : ExtendedMoment) (choice : Choice) (fault : Record) → Stands p x.moment → Fits p x.moment choice →
+stands_choice : (p : Program) (x : ExtendedMoment) (choice : Choice) (fault : Record) → LiesBehind p x.moment → Fits p x.moment choice →
     (IsLastChoice choice → length (transactions_before p x.moment.retired) ≤ x.moment.done) →
-    Stands p (after_chosen p choice fault x).moment
+    LiesBehind p (after_chosen p choice fault x).moment
 stands_choice p x idles fault stands fit last = stands
 stands_choice p x passes fault stands fit last = record { within = stands.within; mended = stands.mended; ended = stands.ended }
 stands_choice p x (holds why) fault stands fit last = stands
@@ -87,8 +87,8 @@ stands_choice p x faults fault stands fit last =
       ended = stands.ended;
     }
 
-pub stands_on : (p : Program) (named : ℕ → Bool) (limit : ℕ) (letter : Letter) (x : ExtendedMoment) → Stands p x.moment →
-    Stands p (after_event p named limit letter x).moment
+pub stands_on : (p : Program) (named : ℕ → Bool) (limit : ℕ) (letter : Letter) (x : ExtendedMoment) → LiesBehind p x.moment →
+    LiesBehind p (after_event p named limit letter x).moment
 unfolding after_event situation_of seen_at
 stands_on p named limit letter x stands =
     let kept = stands_choice p x (choice_by p limit letter (seen_at p named x.moment)) (record_by p limit (seen_at p named x.moment)) stands
@@ -96,6 +96,6 @@ stands_on p named limit letter x stands =
     (λ last. none_left x.moment.done (transactions_before p x.moment.retired) (precise_choice p letter (situation_of limit (seen_at p named x.moment)) last)) in
     record { within = kept.within; mended = kept.mended; ended = kept.ended }
 
-pub stands_first : (p : Program) → Stands p opening_moment
+pub stands_first : (p : Program) → LiesBehind p opening_moment
 unfolding work_before transacted IsMended
 stands_first p = record { within = omega arith; mended = tt; ended = λ yes. absurd cc }

@@ -24,7 +24,7 @@ use Rattle.m88_event.specs.declared.record.Record.{Record}
 use Rattle.m88_emul.proofs.Standing.{stands_first, stands_on}
 use Rattle.m88_emul.specs.Aid.{Aid}
 use Rattle.m88_emul.specs.Extended.{Deed, IsAlone, Work, after_deed, aid_at, aided, alone, bus_after_work, deed_at, deed_of, extended_state, transacted, transactions_before, transacts, where_aided, work_before, work_of}
-use Rattle.m88_emul.specs.Inside.Settled.{Stands}
+use Rattle.m88_emul.specs.Inside.Settled.{LiesBehind}
 use Rattle.m88_emul.specs.Timeline.{ExtendedMoment, IsExtendedOutcome, after_chosen, after_event, after_stop, extended_after, extended_outcome, is_extended_over, last_retired, seen_at, with_event_counted}
 use Rattle.m88_emul.specs.Unaided.{IsPlainUnaided, IsUnaided}
 use Rattle.m88_emul.specs.declared.emulation.EmulOutcome.{EmulOutcome}
@@ -345,7 +345,7 @@ ended_unaided p n limit none stop here = λ k less. by_test (nat_lt k n)
     subst (λ (s : State). IsAlone (deed_at p s)) (sym (ap (state p) (sym e) ∙ stays_ended p n (k - n) stop)) here)
 
 stands_along : (p : Program) (named : ℕ → Bool) (limit : ℕ) (schedule : List Letter) (k : ℕ) →
-    Stands p (extended_after p named limit schedule k).moment
+    LiesBehind p (extended_after p named limit schedule k).moment
 unfolding extended_after
 stands_along p named limit schedule zero = stands_first p
 stands_along p named limit schedule (suc k) =
@@ -370,7 +370,7 @@ none_listed p named limit schedule o run h =
     let listed : x.emulated ≡ [] = sym (ap (λ (y : EmulOutcome). y.emulated) run.value) ∙ h in
     let to = plain_to p named limit schedule k listed in
     let over : is_over p limit m ≡ true = sym (over_plain p limit x m to.same to.none) ∙ run.run.here in
-    let stands : Stands p m = subst (λ (y : ExtendedMoment). Stands p y.moment) to.same (stands_along p named limit schedule k) in
+    let stands : LiesBehind p m = subst (λ (y : ExtendedMoment). LiesBehind p y.moment) to.same (stands_along p named limit schedule k) in
     over_by p limit m m.ended refl (past_after p named limit schedule k) to.none
     (λ ended. subst IsAlone (same_deed p m.retired to.none) (stands.ended ended))
     (second_of (m.done == transaction_count p m.retired) (m.ended || m.retired == limit) over)

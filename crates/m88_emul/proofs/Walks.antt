@@ -20,7 +20,7 @@ use Rattle.m88_isa.specs.declared.planned.Access.{Access}
 use Rattle.m88_emul.proofs.Following.{joins, law}
 use Rattle.m88_emul.proofs.Standing.{stands_first, stands_on}
 use Rattle.m88_emul.specs.Extended.{bus_after_work, extended_state, transacted, transactions_before, work_before}
-use Rattle.m88_emul.specs.Inside.Settled.{Stands, newly_emulated, settled}
+use Rattle.m88_emul.specs.Inside.Settled.{LiesBehind, newly_emulated, settled}
 use Rattle.m88_emul.specs.Timeline.{ExtendedMoment, IsExtendedOutcome, extended_after, extended_outcome, is_extended_over, last_retired, seen_at}
 use Rattle.m88_emul.specs.declared.emulation.EmulOutcome.{EmulOutcome}
 use Rattle.m88_emul.specs.declared.emulation.Emulation.{Emulation}
@@ -29,7 +29,7 @@ use Rattle.m88_emul.specs.declared.emulation.Emulation.{Emulation}
 pub record IsThere (p : Program) (named : ℕ → Bool) (limit : ℕ) (schedule : List Letter) (k : ℕ) (l : Local) (emulated : List Emulation) :
     Type 0 where
   pub seen : l ≡ seen_at p named (extended_after p named limit schedule k).moment
-  pub stands : Stands p (extended_after p named limit schedule k).moment
+  pub stands : LiesBehind p (extended_after p named limit schedule k).moment
   pub joined : emulated ≡ (extended_after p named limit schedule k).emulated
   pub first : NotBefore (λ j. is_extended_over p limit (extended_after p named limit schedule j).moment) k
 
@@ -65,7 +65,7 @@ ended_seen : (ended : Bool) (end : End) → is_some (if ended then Some end else
 ended_seen true end = refl
 ended_seen false end = refl
 
-pub over_seen : (p : Program) (named : ℕ → Bool) (limit : ℕ) (m : Moment) → Stands p m →
+pub over_seen : (p : Program) (named : ℕ → Bool) (limit : ℕ) (m : Moment) → LiesBehind p m →
     is_over_by limit (seen_at p named m) ≡ is_extended_over p limit m
 unfolding seen_at
 over_seen p named limit m stands =

@@ -29,7 +29,7 @@ use Rattle.m88_event.specs.declared.happened.End.TheVariants.{Exit, Limit, Vecto
 use Rattle.m88_event.specs.declared.letter.Letter.{Letter}
 use Rattle.m88_event.specs.declared.letter.Letter.TheVariants.{Answer as r, Evict as e, Issue as i}
 use Rattle.m88_event.specs.declared.record.Record.{Record}
-use Rattle.m88_emul.specs.Aid.{byte_stores, joined, places_from, with_all}
+use Rattle.m88_emul.specs.Aid.{byte_stores, number_behind, places_from, with_all}
 use Rattle.m88_emul.specs.Extended.{bus_after_work, extended_bus, extended_state, stored_all, transacted, work_before}
 use Rattle.m88_emul.specs.Timeline.{ExtendedMoment, after_event, extended_after, extended_outcome, has_place_in, is_extended_over, last_retired, seen_at}
 use Rattle.m88_emul.specs.declared.emulation.EmulOutcome.{EmulOutcome}
@@ -355,9 +355,9 @@ each_after (w ∷ runs) none here =
     (first_after (over_at w) w.comes.events not_before over, each_after runs before after)
 
 events_by_hand : HaveEvents worked
-unfolding worked divided loaded supplied waited around between rounded sized delayed extended_after after_event extended_outcome extended_state seen_at last_retired has_place_in work_before transacted bus_after_work stored_all byte_stores joined places_from with_all completed_state situation_of record_of letter_at opening bus_after_all stored with_word waits_for busy_register first_from uses_of writes_of in_words set.bits_below
+unfolding worked divided loaded supplied waited around between rounded sized delayed extended_after after_event extended_outcome extended_state seen_at last_retired has_place_in work_before transacted bus_after_work stored_all byte_stores number_behind places_from with_all completed_state situation_of record_of letter_at opening bus_after_all stored with_word waits_for busy_register first_from uses_of writes_of in_words set.bits_below
 events_by_hand = each_after worked refl refl
 
 as_by_hand : map came worked ≡ map (λ w. w.comes) worked
-unfolding worked divided loaded supplied waited around between rounded sized delayed extended_after after_event extended_outcome extended_state seen_at last_retired has_place_in work_before transacted bus_after_work stored_all byte_stores joined places_from with_all completed_state situation_of record_of letter_at opening bus_after_all stored with_word waits_for busy_register first_from uses_of writes_of in_words set.bits_below
+unfolding worked divided loaded supplied waited around between rounded sized delayed extended_after after_event extended_outcome extended_state seen_at last_retired has_place_in work_before transacted bus_after_work stored_all byte_stores number_behind places_from with_all completed_state situation_of record_of letter_at opening bus_after_all stored with_word waits_for busy_register first_from uses_of writes_of in_words set.bits_below
 as_by_hand = refl

@@ -61,13 +61,13 @@ places_from place zero = []
 places_from place (suc count) = place ∷ places_from (after_bytes place 1) count
 
 -- the big-endian number of the bytes at some places, read one by one, behind what was read before
-unfoldable pub joined : (ℕ → ℕ) → ℕ → List ℕ → ℕ
-joined memory front [] = front
-joined memory front (a ∷ places) = joined memory (front * 2 ^ 8 + memory a) places
+unfoldable pub number_behind : (ℕ → ℕ) → ℕ → List ℕ → ℕ
+number_behind memory front [] = front
+number_behind memory front (a ∷ places) = number_behind memory (front * 2 ^ 8 + memory a) places
 
 -- a datum of some bytes from a place on, extended as its form says
 abbrev pub datum_at : (ℕ → ℕ) → Bool → ℕ → ℕ → ℕ
-datum_at memory signed size place = widened signed size (joined memory 0 (places_from place size))
+datum_at memory signed size place = widened signed size (number_behind memory 0 (places_from place size))
 
 -- the low bytes of a value, the highest first, each stored at its place
 unfoldable pub byte_stores : ℕ → List ℕ → List Touch

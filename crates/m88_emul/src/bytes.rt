@@ -12,7 +12,7 @@ ghost use Rattle.m88_isa.specs.Memory.{access_of, store};
 ghost use Rattle.m88_mem.specs.DataBus.{absent_of, bus_of, ready_of};
 ghost use Rattle.m88_emul.specs.Aid.{byte_stores, datum_at, places_from};
 ghost use Rattle.m88_emul.specs.Extended.{byte_seen};
-ghost use Rattle.m88_emul.specs.Inside.Places.{AreOpen, HasWords, IsOpen};
+ghost use Rattle.m88_emul.specs.Inside.Places.{AreOpen, HasWords, IsOpenPage};
 
 use m88_isa::datum;
 use m88_mem::Memory;
@@ -40,7 +40,7 @@ fn byte(memory: &Memory, place: u32) -> u32
 }
 
 /// The half at a place, with its sign where it is signed.
-#[tactic(auto, unfolding(crate::specs::Aid::joined, crate::specs::Aid::places_from))]
+#[tactic(auto, unfolding(crate::specs::Aid::number_behind, crate::specs::Aid::places_from))]
 pub(crate) fn half(memory: &Memory, place: u32, signed: bool) -> u32
     ensures { result ≡ datum_at (byte_seen (bus_of memory.now)) signed 2 place }
 {
@@ -53,7 +53,7 @@ pub(crate) fn half(memory: &Memory, place: u32, signed: bool) -> u32
 }
 
 /// The word at a place.
-#[tactic(auto, unfolding(crate::specs::Aid::joined, crate::specs::Aid::places_from))]
+#[tactic(auto, unfolding(crate::specs::Aid::number_behind, crate::specs::Aid::places_from))]
 pub(crate) fn word(memory: &Memory, place: u32) -> u32
     ensures { result ≡ datum_at (byte_seen (bus_of memory.now)) false 4 place }
 {
@@ -67,7 +67,7 @@ pub(crate) fn word(memory: &Memory, place: u32) -> u32
 
 /// Stores the low byte of a value.
 fn put_byte(memory: &mut Memory, place: u32, value: u32)
-    requires { IsOpen (ready_of memory.old) (absent_of memory.old) (page_number place) }
+    requires { IsOpenPage (ready_of memory.old) (absent_of memory.old) (page_number place) }
     ensures { HasWords (stored (access_of (store 1 value place)) (bus_of memory.old)) memory.old
         memory.new }
 {

@@ -1,6 +1,6 @@
 //! One instruction that software does.
 
-ghost use Rattle.std.specs.Prelude.{ℕ, ◌≡◌, Some, None, true, is_some, map, IfOk, IfSome, OnErr, OnOk};
+ghost use Rattle.std.specs.Prelude.{ℕ, ◌≡◌, Some, None, true, map, IfOk, IfSome, OnErr, OnOk};
 ghost use Rattle.m88_base.specs.Reg.{with_register};
 ghost use Rattle.m88_isa.specs.Bus.{bus_after_all};
 ghost use Rattle.m88_isa.specs.Memory.{access_of};
@@ -56,23 +56,28 @@ pub fn emulate(
     let Some(task) = task_in(vector, word, regs) else {
         return Ok(Emulated::Not);
     };
-    prepare(&task, memory)?;
-    supply(&task, memory);
-    carry_out(&task, regs, memory);
+    emulate_task(&task, regs, memory)?;
     Ok(Emulated::Done)
 }
 
-/// Whether software does the instruction of a word by a vector, whatever memory has.
-pub(crate) fn has_aid(vector: u16, word: u32, regs: &[u32; 32]) -> bool
-    ensures aid { (i : InstrValue) → IsWord i word
-        → (bytes : ℕ → ℕ) → is_some (aid_of i vector regs.now bytes) ≡ result }
-    ensures word { result ≡ true → (i : InstrValue) × IsWord i word }
+/// Does a task. Where memory runs out, only pages may have been made ready.
+pub(crate) fn emulate_task(
+    task: &Task,
+    regs: &mut [u32; 32],
+    memory: &mut Memory,
+) -> Result<(), NoMemory>
+    ensures done { OnOk result (IsAided (aid_by task.now (byte_seen (bus_of memory.old))) regs.old
+        regs.new memory.old memory.new) }
+    ensures err { OnErr result ((regs.new ≡ regs.old) × IsOnlyPrepared memory.old memory.new) }
 {
-    task_in(vector, word, regs).is_some()
+    prepare(task, memory)?;
+    supply(task, memory);
+    carry_out(task, regs, memory);
+    Ok(())
 }
 
-/// What software is to do for the instruction of a word, if it does anything.
-fn task_in(vector: u16, word: u32, regs: &[u32; 32]) -> Option<Task>
+/// What software is to do for the instruction of a word, if it does anything, whatever memory has.
+pub(crate) fn task_in(vector: u16, word: u32, regs: &[u32; 32]) -> Option<Task>
     ensures some { IfSome result (λ task. (i : InstrValue) × IsWord i word
         × ((bytes : ℕ → ℕ) → aid_of i vector regs.now bytes ≡ Some (aid_by task bytes))) }
     ensures none { result ≡ None → (i : InstrValue) → IsWord i word

@@ -1,24 +1,18 @@
 //! A whole run on boards, each begun where the one before it ended at an instruction that software does.
 
-ghost use Rattle.std.specs.Prelude.{ℕ, Bool, ◌≡◌, ◌<◌, ◌≤◌, ◌+◌, ◌-◌, ◌*◌, ◌^◌, ◌++◌, ◌∷◌, [], Some, true, false, is_some, length, IfOk, OnOk};
-ghost use Rattle.m88_ctrl.specs.ControlRegisters.{mxm_of};
-ghost use Rattle.m88_event.specs.Local.{is_over_by};
-ghost use Rattle.m88_event.specs.declared.happened.End.TheVariants.{Vector};
+ghost use Rattle.std.specs.Prelude.{ℕ, Bool, ◌≡◌, ◌<◌, ◌≤◌, ◌+◌, ◌-◌, ◌*◌, ◌^◌, ◌++◌, ◌∷◌, [], false, length, IfOk, OnOk};
 ghost use Rattle.m88_isa.specs.ImageProgram.{IsProgramOf};
 ghost use Rattle.m88_isa.specs.Machine.{Program};
-ghost use Rattle.m88_isa.specs.Word.{IsWord};
-ghost use Rattle.m88_isa.specs.declared.instr.Instr.{Instr as InstrValue};
 ghost use Rattle.m88_mem.specs.Marks.{NamesPages, absent_in};
-ghost use Rattle.m88_board.specs.Board.{local_of};
-ghost use Rattle.m88_board.specs.Kept.{most_events, most_retired};
-ghost use Rattle.m88_emul.specs.Aid.{aid_of};
-ghost use Rattle.m88_emul.specs.Inside.Boards.{GoesOnBehind, HasAdvanced, IsSettledBySoftware, one_more, vector_in};
+ghost use Rattle.m88_board.specs.Kept.{most_retired};
+ghost use Rattle.m88_emul.specs.Inside.Boards.{EndedByVector, GoesOnBehind, HasAdvanced, IsSettledBySoftware, MayAdvance, MayMend, vector_in, with_one_retired};
 ghost use Rattle.m88_emul.specs.Timeline.{IsExtendedOutcome};
 ghost use Rattle.m88_emul.specs.Unaided.{IsPlainUnaided};
 ghost use Rattle.m88_emul.specs.declared.emulation.EmulOutcome.{EmulOutcome as EmulOutcomeValue};
 
 use crate::emulation::{EmulOutcome, Emulation};
-use crate::emulator::{Emulated, emulate, has_aid};
+use crate::emulator::{emulate_task, task_in};
+use crate::task::Task;
 use m88_base::{Absent, Image, Listed, NoMemory};
 use m88_board::{Board, Parts};
 use m88_event::{End, Happened, Letter, Schedule};
@@ -43,9 +37,8 @@ pub fn run(
         → IsExtendedOutcome p named limit schedule.now o
         → IsExtendedOutcome p named limit schedule.now other
         → o ≡ other }
-    ensures plain { (p : Program) (named : ℕ → Bool) (o : EmulOutcomeValue)
-        → IsExtendedOutcome p named limit schedule.now o
-        → IsPlainUnaided p named limit schedule.now o }
+    ensures plain { IfOk result (λ o. (p : Program) → IsProgramOf image.now p → p.mxm ≡ false
+        → IsPlainUnaided p (absent_in absent.now) limit schedule.now o) }
     ensures within { IfOk result (λ o. o.outcome.events ≤ length schedule.now + 8 * limit + 8) }
 {
     let mut board = Board::new(alloc, image, absent, limit, false)?;
@@ -58,7 +51,7 @@ pub fn run(
         let ended = advance(&mut board, limit, schedule.letter_at(taken))?;
         taken += 1;
         if let Some(vector) = ended {
-            board = settle(alloc, board, limit, vector, &mut emulated)?;
+            board = settle(board, limit, vector, &mut emulated)?;
         }
     }
     let outcome = board.outcome()?;
@@ -72,9 +65,7 @@ pub fn run(
 // Inlined into the loop over the letters, and the event with it: of what happened the vector alone is looked at.
 #[inline(always)]
 fn advance(board: &mut Board, limit: u32, letter: Letter) -> Result<Option<u16>, NoMemory>
-    requires limit { board.old.limit ≡ limit }
-    requires going { is_over_by limit (local_of board.old) ≡ false }
-    requires few { board.old.events < most_events }
+    requires { MayAdvance limit board.old }
     ensures { IfOk result (λ vector. HasAdvanced limit letter board.old vector board.new) }
 {
     // What always holds of a board is told with its events.
@@ -95,15 +86,12 @@ fn vector_of(happened: Happened) -> Option<u16>
 
 /// A board that ended by a vector, after software did the instruction there, if it does.
 fn settle(
-    alloc: Global,
     board: Board,
     limit: u32,
     vector: u16,
     emulated: &mut Vec<Emulation>,
 ) -> Result<Board, NoMemory>
-    requires limit { board.limit ≡ limit }
-    requires ended { (at : ℕ) × (board.ended ≡ Some (Vector vector at)) }
-    requires clear { mxm_of board.control ≡ false }
+    requires { EndedByVector limit vector board }
     ensures { IfOk result (IsSettledBySoftware limit board emulated.old.items emulated.new.items) }
 {
     // What always holds of a board is told with its events.
@@ -112,11 +100,11 @@ fn settle(
     let Some(word) = board.fetched(at) else {
         return Ok(board);
     };
-    if !has_aid(vector, word, &board.regfile().values()) {
+    let Some(task) = task_in(vector, word, board.regfile().numbers()) else {
         return Ok(board);
-    }
+    };
     note(emulated, Emulation { event, at, vector })?;
-    mend(alloc, board, limit, vector, word)
+    mend(board, limit, &task)
 }
 
 /// Appends an instruction that software does.
@@ -127,25 +115,19 @@ fn note(emulated: &mut Vec<Emulation>, emulation: Emulation) -> Result<(), NoMem
 }
 
 /// The board that goes on behind an instruction that software does, of a board that ended there.
-fn mend(alloc: Global, board: Board, limit: u32, vector: u16, word: u32) -> Result<Board, NoMemory>
-    requires limit { board.limit ≡ limit }
-    requires ended { is_some board.ended ≡ true }
-    requires clear { mxm_of board.control ≡ false }
-    requires aided { (i : InstrValue) × IsWord i word
-        × ((bytes : ℕ → ℕ) → is_some (aid_of i vector board.file.numbers bytes) ≡ true) }
-    ensures { IfOk result (GoesOnBehind limit vector word board) }
+fn mend(board: Board, limit: u32, task: &Task) -> Result<Board, NoMemory>
+    requires { MayMend limit board }
+    ensures { IfOk result (GoesOnBehind limit task.now board) }
 {
     let mut parts = board.into_parts();
-    match emulate(alloc, vector, word, &mut parts.regs, &mut parts.memory)? {
-        Emulated::Done => Ok(Board::begin(behind(parts), limit)),
-        Emulated::Not => unreachable!(),
-    }
+    emulate_task(task, &mut parts.regs, &mut parts.memory)?;
+    Ok(Board::begin(behind(parts), limit))
 }
 
 /// The parts once one more instruction is retired, behind which the program goes on with the following one.
 fn behind(mut parts: Parts) -> Parts
     requires { parts.retired < 2 ^ 32 - 1 }
-    ensures { result ≡ one_more parts }
+    ensures { result ≡ with_one_retired parts }
 {
     parts.last = Some(parts.pc);
     parts.pc = parts.next;

@@ -5,14 +5,14 @@ use Rattle.m88_mem.specs.DataBus.{MemoryView, absent_of, bus_of, ready_of}
 use Rattle.m88_emul.specs.Timeline.{has_place_in}
 
 -- a page is ready and present
-abbrev pub IsOpen : (ℕ → Bool) → (ℕ → Bool) → ℕ → Type 0
-IsOpen ready absent page = (ready page ≡ true) × (absent page ≡ false)
+abbrev pub IsOpenPage : (ℕ → Bool) → (ℕ → Bool) → ℕ → Type 0
+IsOpenPage ready absent page = (ready page ≡ true) × (absent page ≡ false)
 
 -- the page of each place is
 unfoldable pub AreOpen : (ℕ → Bool) → (ℕ → Bool) → List ℕ → Type 0
 AreOpen ready absent [] = Unit {0}
 AreOpen ready absent (a ∷ places) =
-    IsOpen ready absent (page_number a) × AreOpen ready absent places
+    IsOpenPage ready absent (page_number a) × AreOpen ready absent places
 
 -- the words of memory are these, and nothing else of it changed
 pub record HasWords (words : ℕ → ℕ) (old new : MemoryView) : Type 0 where

@@ -73,7 +73,7 @@ IsMended done (mends xs ∷ works) = IsMended done works
 
 -- what lies behind each moment: no more transactions are done than were made; all that software stored lies before
 -- those that are pending; and the mark of the end is there only where software has no aid
-pub record Stands (p : Program) (m : Moment) : Type 0 where
+pub record LiesBehind (p : Program) (m : Moment) : Type 0 where
   pub within : m.done ≤ length (transactions_before p m.retired)
   pub mended : IsMended m.done (work_before p m.retired)
   pub ended : m.ended ≡ true → IsAlone (deed_at p (extended_state p m.retired))

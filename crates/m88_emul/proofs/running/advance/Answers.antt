@@ -16,7 +16,7 @@ returns c =
     record {
       moved = λ p of.
           (event.moved p of).moved
-          ∙ ap (λ (n : ℕ). move p n c.args.letter (local_of c.args.board.now)) c.requires.limit;
+          ∙ ap (λ (n : ℕ). move p n c.args.letter (local_of c.args.board.now)) c.requires.limit_is;
       ended = ends_if c.vector_of.result c.in_ok-happened.happened c.event.new.self.ended c.vector_of.ensures ended;
       alone = λ none p of.
           let alone =

@@ -20,8 +20,8 @@ use Rattle.m88_emul.specs.Inside.Settled.{newly_emulated, settled}
 use Rattle.m88_emul.specs.declared.emulation.Emulation.{Emulation}
 use Rattle.m88_emul.proofs.running.run.Goals as goal
 
-pub loop-alloc-init : goal.loop-alloc-init
-loop-alloc-init c =
+pub loop-board-init : goal.loop-board-init
+loop-board-init c =
     let made = c.in_ok-board.ensures in
     let p = c.new.ensures.program.0 in
     let of = c.new.ensures.program.1 in
@@ -39,44 +39,44 @@ loop-alloc-init c =
     }
 
 -- which takes something off the weight
-pub loop-alloc-smaller : goal.loop-alloc-smaller
-loop-alloc-smaller c =
-    let inv = c.loop-alloc.invariant in
+pub loop-board-smaller : goal.loop-board-smaller
+loop-board-smaller c =
+    let inv = c.loop-board.invariant in
     let event = c.in_ok-ended.ensures in
-    let old = c.loop-alloc.board in
+    let old = c.loop-board.board in
     let new = c.advance.new.board in
     let goes : is_over_by c.args.limit (local_of old) ≡ false =
-    ap (λ (n : ℕ). is_over_by n (local_of old)) (sym inv.limit) ∙ sym c.is_over.ensures.value ∙ c.loop-alloc-test.true in
-    lighter c.args.schedule.now c.args.limit c.loop-alloc.taken c.letter_at.result old new (local_of new)
+    ap (λ (n : ℕ). is_over_by n (local_of old)) (sym inv.limit) ∙ sym c.is_over.ensures.value ∙ c.loop-board-test.true in
+    lighter c.args.schedule.now c.args.limit c.loop-board.taken c.letter_at.result old new (local_of new)
     event.kept.0 event.kept.1 inv.limit (event.same.limit ∙ inv.limit) goes c.letter_at.ensures event.moved
     (λ p of. sym (event.alone c.in_default.is p of).0 ∙ ap (settled p) (event.moved p of))
 
-pub loop-alloc-smaller-in-Some : goal.loop-alloc-smaller-in-Some
-loop-alloc-smaller-in-Some c =
-    let inv = c.loop-alloc.invariant in
+pub loop-board-smaller-in-Some : goal.loop-board-smaller-in-Some
+loop-board-smaller-in-Some c =
+    let inv = c.loop-board.invariant in
     let event = c.in_ok-ended.ensures in
     let done = c.in_ok-board-2.ensures in
-    let old = c.loop-alloc.board in
+    let old = c.loop-board.board in
     let mid = c.advance.new.board in
     let goes : is_over_by c.args.limit (local_of old) ≡ false =
-    ap (λ (n : ℕ). is_over_by n (local_of old)) (sym inv.limit) ∙ sym c.is_over.ensures.value ∙ c.loop-alloc-test.true in
+    ap (λ (n : ℕ). is_over_by n (local_of old)) (sym inv.limit) ∙ sym c.is_over.ensures.value ∙ c.loop-board-test.true in
     let after = λ (p : Program) (of : IsProgramOf old.memory.image p).
     subst (λ (image : ProgramImage). IsProgramOf image p) (sym event.same.image) of in
-    lighter c.args.schedule.now c.args.limit c.loop-alloc.taken c.letter_at.result old mid (local_of c.in_ok-board-2.board)
+    lighter c.args.schedule.now c.args.limit c.loop-board.taken c.letter_at.result old mid (local_of c.in_ok-board-2.board)
     event.kept.0 event.kept.1 inv.limit (event.same.limit ∙ inv.limit) goes c.letter_at.ensures event.moved
     (λ p of. done.settled_is p (after p of) ∙ ap (settled p) (event.moved p of))
 
 -- behind an event, with what software makes of it
-pub loop-alloc-preserved : goal.loop-alloc-preserved
-loop-alloc-preserved c =
-    let inv = c.loop-alloc.invariant in
+pub loop-board-preserved : goal.loop-board-preserved
+loop-board-preserved c =
+    let inv = c.loop-board.invariant in
     let event = c.in_ok-ended.ensures in
-    let old = c.loop-alloc.board in
+    let old = c.loop-board.board in
     let new = c.advance.new.board in
-    let xs = c.loop-alloc.emulated.items in
+    let xs = c.loop-board.emulated.items in
     let goes : is_over_by c.args.limit (local_of old) ≡ false =
-    ap (λ (n : ℕ). is_over_by n (local_of old)) (sym inv.limit) ∙ sym c.is_over.ensures.value ∙ c.loop-alloc-test.true in
-    let less = loop-alloc-smaller c in
+    ap (λ (n : ℕ). is_over_by n (local_of old)) (sym inv.limit) ∙ sym c.is_over.ensures.value ∙ c.loop-board-test.true in
+    let less = loop-board-smaller c in
     let room = inv.room in
     let before = inv.counted in
     let counted = event.counted in
@@ -92,26 +92,26 @@ loop-alloc-preserved c =
           ∙ ap (λ (x : Letter). move p c.args.limit x (local_of old)) c.letter_at.ensures in
           let alone = event.alone c.in_default.is p here in
           subst (λ (n : ℕ). IsThere p (absent_in c.args.absent.now) c.args.limit c.args.schedule.now n (local_of new) xs)
-          (sym (add-one c.loop-alloc.taken))
-          (there_next p (absent_in c.args.absent.now) c.args.limit c.args.schedule.now c.loop-alloc.taken (local_of old) _ _ _
+          (sym (add-one c.loop-board.taken))
+          (there_next p (absent_in c.args.absent.now) c.args.limit c.args.schedule.now c.loop-board.taken (local_of old) _ _ _
           (program_of_image c.args.image.now p c.new.ensures.is_image of) (inv.there p of clear) goes
           (sym alone.0 ∙ ap (settled p) moved)
           (sym (append-nil xs) ∙ ap (λ (ys : List Emulation). xs ++ ys) (sym alone.1 ∙ ap (newly_emulated p) moved)));
     }
 
-pub loop-alloc-preserved-in-Some : goal.loop-alloc-preserved-in-Some
-loop-alloc-preserved-in-Some c =
-    let inv = c.loop-alloc.invariant in
+pub loop-board-preserved-in-Some : goal.loop-board-preserved-in-Some
+loop-board-preserved-in-Some c =
+    let inv = c.loop-board.invariant in
     let event = c.in_ok-ended.ensures in
     let done = c.in_ok-board-2.ensures in
-    let old = c.loop-alloc.board in
+    let old = c.loop-board.board in
     let mid = c.advance.new.board in
-    let xs = c.loop-alloc.emulated.items in
+    let xs = c.loop-board.emulated.items in
     let goes : is_over_by c.args.limit (local_of old) ≡ false =
-    ap (λ (n : ℕ). is_over_by n (local_of old)) (sym inv.limit) ∙ sym c.is_over.ensures.value ∙ c.loop-alloc-test.true in
+    ap (λ (n : ℕ). is_over_by n (local_of old)) (sym inv.limit) ∙ sym c.is_over.ensures.value ∙ c.loop-board-test.true in
     let after = λ (p : Program) (of : IsProgramOf old.memory.image p).
     subst (λ (image : ProgramImage). IsProgramOf image p) (sym event.same.image) of in
-    let less = loop-alloc-smaller-in-Some c in
+    let less = loop-board-smaller-in-Some c in
     let room = inv.room in
     let before = inv.counted in
     let counted = event.counted in
@@ -127,8 +127,8 @@ loop-alloc-preserved-in-Some c =
           let moved = event.moved p here
           ∙ ap (λ (x : Letter). move p c.args.limit x (local_of old)) c.letter_at.ensures in
           subst (λ (n : ℕ). IsThere p (absent_in c.args.absent.now) c.args.limit c.args.schedule.now n
-          (local_of c.in_ok-board-2.board) c.settle.new.emulated.items) (sym (add-one c.loop-alloc.taken))
-          (there_next p (absent_in c.args.absent.now) c.args.limit c.args.schedule.now c.loop-alloc.taken (local_of old) _ _ _
+          (local_of c.in_ok-board-2.board) c.settle.new.emulated.items) (sym (add-one c.loop-board.taken))
+          (there_next p (absent_in c.args.absent.now) c.args.limit c.args.schedule.now c.loop-board.taken (local_of old) _ _ _
           (program_of_image c.args.image.now p c.new.ensures.is_image of) (inv.there p of clear) goes
           (done.settled_is p (after p here) ∙ ap (settled p) moved)
           (done.emulated p (after p here) ∙ ap (λ (l : Local). xs ++ newly_emulated p l) moved));
@@ -137,46 +137,41 @@ loop-alloc-preserved-in-Some c =
 pub returns-clause-only : goal.returns-clause-only
 returns-clause-only c = λ p named o other. one_outcome p named c.args.limit c.args.schedule.now o other
 
-pub returns-clause-plain : goal.returns-clause-plain
-returns-clause-plain c = λ p named o. plain_unaided p named c.args.limit c.args.schedule.now o
-
-pub returns-in_err-board-clause-plain : goal.returns-in_err-board-clause-plain
-returns-in_err-board-clause-plain c = λ p named o. plain_unaided p named c.args.limit c.args.schedule.now o
-
-pub returns-in_err-ended-clause-plain : goal.returns-in_err-ended-clause-plain
-returns-in_err-ended-clause-plain c = λ p named o. plain_unaided p named c.args.limit c.args.schedule.now o
-
-pub returns-in_err-board-2-clause-plain : goal.returns-in_err-board-2-clause-plain
-returns-in_err-board-2-clause-plain c = λ p named o. plain_unaided p named c.args.limit c.args.schedule.now o
-
-pub returns-in_err-outcome-clause-plain : goal.returns-in_err-outcome-clause-plain
-returns-in_err-outcome-clause-plain c = λ p named o. plain_unaided p named c.args.limit c.args.schedule.now o
-
 pub returns-clause-outcome : goal.returns-clause-outcome
 returns-clause-outcome c = λ p of clear.
-    let inv = c.loop-alloc.invariant in
-    let over : is_over_by c.args.limit (local_of c.loop-alloc.board) ≡ true =
-    ap (λ (n : ℕ). is_over_by n (local_of c.loop-alloc.board)) (sym inv.limit) ∙ sym c.is_over.ensures.value ∙ c.loop-alloc-test.false in
+    let inv = c.loop-board.invariant in
+    let over : is_over_by c.args.limit (local_of c.loop-board.board) ≡ true =
+    ap (λ (n : ℕ). is_over_by n (local_of c.loop-board.board)) (sym inv.limit) ∙ sym c.is_over.ensures.value ∙ c.loop-board-test.false in
     let here = subst (λ (image : ProgramImage). IsProgramOf image p) (sym inv.image) of in
-    there_over p (absent_in c.args.absent.now) c.args.limit c.args.schedule.now c.loop-alloc.taken (local_of c.loop-alloc.board)
-    c.loop-alloc.emulated.items _ (inv.there p of clear) over
+    there_over p (absent_in c.args.absent.now) c.args.limit c.args.schedule.now c.loop-board.taken (local_of c.loop-board.board)
+    c.loop-board.emulated.items _ (inv.there p of clear) over
     (ap₂ (λ (o : Outcome) (xs : List Emulation). record { outcome = o; emulated = xs })
-    (came_to p c.loop-alloc.board _ here (c.in_ok-outcome.ensures.value (over_empty c.args.limit c.loop-alloc.board over)))
+    (came_to p c.loop-board.board _ here (c.in_ok-outcome.ensures.value (over_empty c.args.limit c.loop-board.board over)))
     c.new-2.ensures)
+
+pub returns-clause-plain : goal.returns-clause-plain
+returns-clause-plain c = λ p of clear.
+    plain_unaided p (absent_in c.args.absent.now) c.args.limit c.args.schedule.now _ (returns-clause-outcome c p of clear)
 
 pub returns-clause-within : goal.returns-clause-within
 returns-clause-within c =
-    let inv = c.loop-alloc.invariant in
+    let inv = c.loop-board.invariant in
     let room = inv.room in
     let counted = inv.counted in
     let events = c.in_ok-outcome.ensures.events in
     omega (arith, room, counted, events)
 
-pub advance-requires-clause-few : goal.advance-requires-clause-few
-advance-requires-clause-few c =
-    let room = c.loop-alloc.invariant.room in
-    let counted = c.loop-alloc.invariant.counted in
+pub advance-requires : goal.advance-requires
+advance-requires c =
+    let inv = c.loop-board.invariant in
+    let room = c.loop-board.invariant.room in
+    let counted = c.loop-board.invariant.counted in
     let value = c.len.ensures.value in
     let bound = c.len.ensures.bound in
     let small = c.requires.small in
-    omega (arith, room, counted, value, bound, small)
+    record {
+      limit_is = inv.limit;
+      going =
+          ap (λ (n : ℕ). is_over_by n (local_of c.loop-board.board)) (sym inv.limit) ∙ sym c.is_over.ensures.value ∙ c.loop-board-test.true;
+      few = omega (arith, room, counted, value, bound, small);
+    }

@@ -9,8 +9,8 @@ use Rattle.m88_board.specs.Board.{local_of}
 use Rattle.m88_emul.proofs.Walks.{IsThere}
 use Rattle.m88_emul.proofs.running.run.Given as goal
 
-abbrev pub invariant-loop-alloc : goal.invariant-loop-alloc
-invariant-loop-alloc l = record {
+abbrev pub invariant-loop-board : goal.invariant-loop-board
+invariant-loop-board l = record {
   limit : l.board.limit ≡ l.limit;
   clear : mxm_of l.board.control ≡ false;
   image : l.board.memory.image ≡ l.image;
@@ -20,5 +20,5 @@ invariant-loop-alloc l = record {
       → IsThere p (absent_in l.absent) l.limit l.schedule l.taken (local_of l.board) l.emulated.items;
 }
 
-abbrev pub decreases-loop-alloc : goal.decreases-loop-alloc
-decreases-loop-alloc l = weight l.schedule l.limit l.taken (local_of l.board)
+abbrev pub decreases-loop-board : goal.decreases-loop-board
+decreases-loop-board l = weight l.schedule l.limit l.taken (local_of l.board)

@@ -1,9 +1,13 @@
-use Rattle.std.proofs.Common.{ℕ, List, ◌++◌, arith, ap, sym, ◌∙◌}
+use Rattle.std.proofs.Common.{ℕ, List, ◌++◌, ◌≡◌, arith, ap, refl, sym, ◌∙◌}
 use Rattle.std.specs.Prelude.{is_some}
+use Rattle.m88_board.specs.Board.{local_of}
 use Rattle.m88_isa.specs.ImageProgram.{IsProgramOf}
 use Rattle.m88_isa.specs.Machine.{Program}
-use Rattle.m88_emul.proofs.OnBoards.{board_done, board_joins, board_stays, keeps_run, none_joins, none_pending, ok_then, place_is, pushed, unread_no_aid, values_are, word_aid, word_no_aid}
-use Rattle.m88_emul.specs.Aid.{aid_of}
+use Rattle.m88_mem.specs.DataBus.{bus_of}
+use Rattle.m88_emul.proofs.OnBoards.{board_done, board_joins, board_stays, keeps_run, none_joins, numbers_are, ok_then, place_is, pushed, same_aid, task_aid, unread_no_aid, word_aid, word_no_aid}
+use Rattle.m88_emul.specs.Aid.{Aid}
+use Rattle.m88_emul.specs.Extended.{byte_seen}
+use Rattle.m88_emul.specs.Inside.Settled.{completed_by}
 use Rattle.m88_emul.specs.declared.emulation.Emulation.{Emulation}
 use Rattle.m88_emul.proofs.running.settle.Goals as goal
 
@@ -14,55 +18,50 @@ returns-in_default c =
     let here = place_is c.args.board _ _ _ kept ended c.candidate-at.ensures.value c.iunit.ensures.value in
     let none = λ (p : Program) (of : IsProgramOf c.args.board.memory.image p). unread_no_aid p c.args.board c.args.vector c.requires.ended.0 c.candidate-at.result.addr of kept ended here c.in_default.ensures.value in
     record {
-      run = keeps_run c.args.board c.requires.limit c.requires.clear;
+      run = keeps_run c.args.board c.requires.limit_is c.requires.clear;
       settled_is = λ p of. sym (board_stays p c.args.board (none p of));
       emulated = λ p of. sym (none_joins p c.args.board c.args.emulated.now.items (none p of));
     }
 
-pub returns-then-not-has_aid : goal.returns-then-not-has_aid
-returns-then-not-has_aid c =
+pub returns-in_default-task_in : goal.returns-in_default-task_in
+returns-in_default-task_in c =
     let kept = c.events-event.ensures.kept in
     let ended = c.requires.ended.1 in
     let here = place_is c.args.board _ _ _ kept ended c.candidate-at.ensures.value c.iunit.ensures.value in
-    let values = values_are c.args.board c.values.result _ kept (none_pending c.args.board _ kept ended) c.regfile.ensures.value c.values.ensures.whole in
+    let values = numbers_are c.args.board c.numbers.result.now _ c.regfile.ensures.value c.numbers.ensures in
     let none = λ (p : Program) (of : IsProgramOf c.args.board.memory.image p).
-    word_no_aid p c.args.board c.args.vector c.requires.ended.0 c.candidate-at.result.addr c.in-Some.word c.values.result of kept ended here values
+    word_no_aid p c.args.board c.args.vector c.requires.ended.0 c.candidate-at.result.addr c.in-Some.word c.numbers.result.now of kept ended here values
     c.candidate-at.ensures.word (omega arith) c.in-Some.ensures.value
-    (λ j is bytes. c.has_aid.ensures.aid j is bytes ∙ c.if-not-has_aid.true) in
+    (λ j is bytes. ap is_some (c.in_default-task_in.ensures.none refl j is bytes)) in
     record {
-      run = keeps_run c.args.board c.requires.limit c.requires.clear;
+      run = keeps_run c.args.board c.requires.limit_is c.requires.clear;
       settled_is = λ p of. sym (board_stays p c.args.board (none p of));
       emulated = λ p of. sym (none_joins p c.args.board c.args.emulated.now.items (none p of));
     }
 
-pub mend-requires-clause-aided : goal.mend-requires-clause-aided
-mend-requires-clause-aided c =
-    let kept = c.events-event.ensures.kept in
-    let ended = c.requires.ended.1 in
-    let values = values_are c.args.board c.values.result _ kept (none_pending c.args.board _ kept ended) c.regfile.ensures.value c.values.ensures.whole in
-    let found = c.has_aid.ensures.word c.if-not-has_aid.false in (
-      found.0,
-      found.1,
-      λ bytes. ap (λ (xs : List ℕ). is_some (aid_of found.0 c.args.vector xs bytes)) (sym values)
-          ∙ c.has_aid.ensures.aid found.0 found.1 bytes ∙ c.if-not-has_aid.false,
-    )
+pub mend-requires : goal.mend-requires
+mend-requires c = record { limit_is = c.requires.limit_is; ended = ap is_some c.requires.ended.1; clear = c.requires.clear }
 
 pub returns : goal.returns
 returns c =
     let kept = c.events-event.ensures.kept in
     let ended = c.requires.ended.1 in
     let here = place_is c.args.board _ _ _ kept ended c.candidate-at.ensures.value c.iunit.ensures.value in
-    let values = values_are c.args.board c.values.result _ kept (none_pending c.args.board _ kept ended) c.regfile.ensures.value c.values.ensures.whole in
-    let found = c.has_aid.ensures.word c.if-not-has_aid.false in
+    let values = numbers_are c.args.board c.numbers.result.now _ c.regfile.ensures.value c.numbers.ensures in
+    let some = c.in-Some-task_in.ensures.some in
+    let bytes : ℕ → ℕ = byte_seen (bus_of c.args.board.memory) in
     let aided = λ (p : Program) (of : IsProgramOf c.args.board.memory.image p).
-    word_aid p c.args.board c.args.vector c.candidate-at.result.addr c.in-Some.word c.values.result of here values
+    word_aid p c.args.board c.args.vector c.candidate-at.result.addr c.in-Some.word c.numbers.result.now of here values
     c.candidate-at.ensures.word (omega arith) c.in-Some.ensures.value
-    (λ j is bytes. c.has_aid.ensures.aid j is bytes ∙ c.if-not-has_aid.false) found.0 found.1 in
+    (task_aid c.in-Some-task_in.task c.in-Some.word c.args.vector c.numbers.result.now some) some.0 some.1 in
     ok_then c.mend.result c.mend.ensures (λ b on. record {
       run = on.run;
       settled_is = λ p of.
           let h = aided p of in
-          on.mended h.i h.is h.aid h.by_word
+          let same = same_aid some.0 h.i c.in-Some.word c.args.vector c.numbers.result.now c.args.board.file.numbers bytes bytes _ h.aid
+          some.1 h.is values refl (some.2 bytes) h.by_word in
+          on.mended
+          ∙ ap (λ (a : Aid). completed_by a (local_of c.args.board)) same
           ∙ sym (board_done p c.args.board c.args.vector c.requires.ended.0 h.aid of kept ended h.there);
       emulated = λ p of.
           let h = aided p of in
