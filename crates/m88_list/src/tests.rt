@@ -29,18 +29,20 @@ const NEVER: u32 = 4_000_000_000;
 /// Labels at one address, and the names of `.set`.
 const LABELS: &[u8] = b"b:\na: .word 0\n.set z,5\n.set y,4\n";
 
-const LABELS_LISTED: &[u8] = b"      1                              b:\n\
-\x20     2  00001000  00000000          a: .word 0\n\
-\x20     3                              .set z,5\n\
-\x20     4                              .set y,4\n\
+const LABELS_LISTED: &[u8] = b"      1  00001000                       b:\n\
+\x20     2  00001000  00000000             a: .word 0\n\
+\x20     3  00000005  =                    .set z,5\n\
+\x20     4  00000004  =                    .set y,4\n\
 \n\
 labels\n\
-00001000 b main 1\n\
-00001000 a main 2\n\
+00001000 text b main 1\n\
+00001000 text a main 2\n\
 \n\
 numbers\n\
 00000005 z main 3\n\
-00000004 y main 4\n";
+00000004 y main 4\n\
+\n\
+text 4 data 0 at 0 start 00001000\n";
 
 /// The answer to a source whose call of this number fails, and what the sink then holds.
 fn listed(

@@ -1,7 +1,7 @@
 -- The statements of a source stand in lines of their own, in order, so each row is that of one line.
 use Rattle.std.proofs.Common.{◌≡◌, ℕ, suc, ◌+◌, ◌<◌, ◌≤◌, Bool, true, false, inl, inr, List, [], ◌∷◌, ◌++◌, length, map, refl, sym, ap, ◌∙◌, subst, arith, Option, Some, None}
-use Rattle.std.specs.Prelude.{◌==◌, flat_map, if◌then◌else◌}
-use Rattle.std.specs.List.{enumerate_from}
+use Rattle.std.specs.Prelude.{◌==◌, flat_map, if◌then◌else◌, slice_get}
+use Rattle.std.specs.List.{AllByRecursion, enumerate_from}
 use Rattle.std.specs.Option.{option_map_or}
 use Rattle.std.proofs.lemmas.Bool.{cases_order, cond-true, cond-false, eqb-true, eqb-false, ne_eqb}
 use Rattle.m88_base.specs.Lines.{lines_of}
@@ -11,15 +11,19 @@ use Rattle.m88_parse.specs.Language.Statements.{IsStatement}
 use Rattle.m88_parse.specs.Language.Statements as statement
 use Rattle.m88_parse.specs.Language.Units.{AreModules, AreRows, IsUnit, LineSays, says}
 use Rattle.m88_parse.specs.Language.Units as units
+use Rattle.m88_parse.specs.declared.unit.Body.{Body}
+use Rattle.m88_parse.specs.declared.unit.Body.TheVariants as body
 use Rattle.m88_parse.specs.declared.unit.Module.{Module}
 use Rattle.m88_parse.specs.declared.unit.Statement.{Statement}
 use Rattle.m88_parse.specs.declared.unit.Unit.{Unit as Source}
 use Rattle.m88_link.specs.Bases.{Placement, stood_from, up_to_multiple}
+use Rattle.m88_link.specs.declared.object.Symbol.{Symbol}
 use Rattle.m88_asm.specs.Counters.{Counters, Located, after, at_begin, length_of}
+use Rattle.m88_asm.specs.Objects.{labels_at, sets_at}
 use Rattle.m88_asm.specs.Units.{address_in, based, section_length}
 use Rattle.m88_listing.specs.Columns.{bare_line}
-use Rattle.m88_listing.specs.Rows.{Row, is_counted, lines_with, row_on, row_lines}
-use Rattle.m88_listing.specs.Inside.Slots.{kept_row, slots_from, slots_of, walked}
+use Rattle.m88_listing.specs.Rows.{Row, lines_with, named_by, row_on, row_lines, shown_as}
+use Rattle.m88_listing.specs.Inside.Slots.{kept_row, slots_from, slots_of, symbol_slot, walked}
 use Rattle.m88_listing.specs.declared.slots.Slot.{Slot}
 
 -- numbers climb from one on, and stay below another
@@ -81,6 +85,39 @@ lower_slots : (low from to : ℕ) (ss : List Slot) → low ≤ from → SlotsCli
 lower_slots low from to [] l h = tt
 lower_slots low from to (s ∷ ss) l h = (omega (arith, l, h.0), h.1, h.2)
 
+-- what a statement names stands in its line
+abbrev AllIn : ℕ → List Symbol → Type 0
+AllIn line symbols = AllByRecursion (λ (s : Symbol). s.line ≡ line) symbols
+
+sets_in : (line : ℕ) (said : Body) → AllIn line (sets_at line said)
+sets_in line (body.Set name col value) = (refl, tt)
+sets_in line body.Empty = tt
+sets_in line body.Text = tt
+sets_in line body.DataSection = tt
+sets_in line (body.At address) = tt
+sets_in line (body.Word values) = tt
+sets_in line (body.Half numbers) = tt
+sets_in line (body.Byte bytes) = tt
+sets_in line (body.Ascii bytes) = tt
+sets_in line (body.Zero n) = tt
+sets_in line (body.Align n) = tt
+sets_in line (body.Global name) = tt
+sets_in line (body.Code instr fixup) = tt
+
+labels_in : (c : Counters) (line : ℕ) (label : Option (List ℕ × ℕ)) → AllIn line (labels_at c line label)
+labels_in c line None = tt
+labels_in c line (Some label) = (refl, tt)
+
+first_in : (line : ℕ) (xs ys : List Symbol) (s : Symbol) → AllIn line xs → AllIn line ys → slice_get (xs ++ ys) 0 ≡ Some s → s.line ≡ line
+first_in line [] [] s a b e = cc
+first_in line [] (y ∷ ys) s a b e = let same : s ≡ y = cc in ap (λ (x : Symbol). x.line) same ∙ b.0
+first_in line (x ∷ xs) ys s a b e = let same : s ≡ x = cc in ap (λ (x : Symbol). x.line) same ∙ a.0
+
+named_line : (r : Located) (s : Symbol) → named_by r ≡ Some s → s.line ≡ r.statement.line
+named_line r s e =
+    first_in r.statement.line (sets_at r.statement.line r.statement.body) (labels_at r.before r.statement.line r.statement.label) s
+    (sets_in r.statement.line r.statement.body) (labels_in r.before r.statement.line r.statement.label) e
+
 from_climb : (b : Placement Module) (c : Counters) (xs : List Statement) (from to : ℕ) (rest : List ℕ) (more : List Slot)
     → Climb from to (line_numbers xs ++ rest) → ((f : ℕ) → Climb f to rest → SlotsClimb f to more) → SlotsClimb from to (slots_from b c xs ++ more)
 unfolding line_numbers
@@ -91,11 +128,21 @@ from_climb b c (x ∷ xs) from to rest more h next = by (length_of r == 0) (from
     r = record { before = c; statement = x }
 
     slot : Slot
-    slot = record { line = x.line; at = address_in b r; len = length_of r; counted = is_counted x.body }
+    slot = record { line = x.line; at = address_in b r; len = length_of r; shown = shown_as x.body }
+
+    named : (o : Option Symbol) → named_by r ≡ o → SlotsClimb (x.line + 1) to (slots_from b (after c x.body) xs ++ more)
+        → SlotsClimb from to ((option_map_or (λ s. symbol_slot b s ∷ []) o [] ++ slots_from b (after c x.body) xs) ++ more)
+    named None e left = lower_slots from (x.line + 1) to _ (omega (arith, h.0)) left
+    named (Some s) e left =
+        let here : s.line ≡ x.line = named_line r s e in (
+          omega (arith, here, h.0),
+          omega (arith, here, h.1),
+          subst (λ n. SlotsClimb (n + 1) to (slots_from b (after c x.body) xs ++ more)) (sym here) left,
+        )
 
     by : (t : Bool) → SlotsClimb (x.line + 1) to (slots_from b (after c x.body) xs ++ more)
-        → SlotsClimb from to (((if t then [] else slot ∷ []) ++ slots_from b (after c x.body) xs) ++ more)
-    by true left = lower_slots from (x.line + 1) to _ (omega (arith, h.0)) left
+        → SlotsClimb from to (((if t then option_map_or (λ s. symbol_slot b s ∷ []) (named_by r) [] else slot ∷ []) ++ slots_from b (after c x.body) xs) ++ more)
+    by true left = named (named_by r) refl left
     by false left = (h.0, h.1, left)
 
 all_climb : (text datas from to : ℕ) (ms : List Module) → Climb from to (module_numbers ms) → SlotsClimb from to (slots_of (stood_from section_length text datas ms))

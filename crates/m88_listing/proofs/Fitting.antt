@@ -1,9 +1,9 @@
 -- The statements of a unit that is accepted fit, and what is kept of them is what they put into the unit's image.
-use Rattle.std.proofs.Common.{◌≡◌, ℕ, zero, suc, ◌+◌, ◌-◌, ◌<◌, ◌≤◌, ◌^◌, Bool, true, false, inl, inr, List, [], ◌∷◌, ◌++◌, length, map, filter, get_or, refl, sym, ap, ◌∙◌, subst, arith, Option, Some, None}
+use Rattle.std.proofs.Common.{◌≡◌, ℕ, suc, ◌+◌, ◌-◌, ◌<◌, ◌≤◌, ◌^◌, Bool, true, false, inl, inr, List, [], ◌∷◌, ◌++◌, length, map, get_or, refl, sym, ap, ◌∙◌, subst, arith, Option, Some, None}
 use Rattle.std.specs.Prelude.{◌==◌, IfSome, IsSome, flat_map, nat_lt, slice_get, unwrap_or, if◌then◌else◌}
 use Rattle.std.specs.List.{AllByRecursion, range_with_len}
-use Rattle.std.specs.Option.{option_map}
-use Rattle.std.proofs.lemmas.Bool.{cases_Bool, cond-true, cond-false, eqb-true, eqb-false, ltb-false, or_parts, lt-ltb, le-ltb}
+use Rattle.std.specs.Option.{option_map, option_map_or}
+use Rattle.std.proofs.lemmas.Bool.{ltb-false, or_parts}
 use Rattle.std.proofs.lemmas.List.{map-append}
 use Rattle.std.proofs.lemmas.Option.{slice_get-get_or}
 use Rattle.m88_base.proofs.Laws.{byte_in_from}
@@ -23,8 +23,8 @@ use Rattle.m88_asm.specs.Images.{IsUnitImage, run_of, runs_in}
 use Rattle.m88_asm.specs.Objects.{symbols_of}
 use Rattle.m88_asm.specs.Units.{address_in, based, bytes_of, section_length, unit_layout, value_in_module}
 use Rattle.m88_asm.proofs.Laws.{AllFormed, CanFill, EachBased, Has, each_fills, first_parts, formed, has_left, has_right, length-filled_bytes, none_of_both, run_found, runs_law}
-use Rattle.m88_listing.specs.Rows.{Row, has_bytes, is_counted, row_of, rows_in, rows_of_unit}
-use Rattle.m88_listing.specs.Inside.Slots.{AllFit, StandsWithin, IsSlot, ModuleFits, found_bytes, kept_row, slots_at, slots_from, slots_of}
+use Rattle.m88_listing.specs.Rows.{Row, named_by, row_of, rows_in, rows_of, rows_of_unit, shown_as, symbol_row}
+use Rattle.m88_listing.specs.Inside.Slots.{AllFit, StandsWithin, IsSlot, ModuleFits, found_bytes, kept_row, slots_at, slots_from, slots_of, symbol_slot}
 use Rattle.m88_listing.specs.declared.slots.Slot.{Slot}
 
 -- the bytes of a statement are found at their addresses
@@ -139,17 +139,16 @@ one_slot : (globals : List Symbol) (b : Placement Module) (found : ℕ → Optio
     → AllByRecursion (IsSlot found) (slots_at b r)
 one_slot globals b found r fits is = by (length_of r == 0) refl
   where
+    named : (o : Option Symbol) → AllByRecursion (IsSlot found) (option_map_or (λ s. symbol_slot b s ∷ []) o [])
+    named None = tt
+    named (Some s) = (record { within = λ some. absurd (omega (arith, some)); has = λ k l. absurd (omega (arith, l)) }, tt)
+
     by : (t : Bool) → (length_of r == 0) ≡ t
-        → AllByRecursion (IsSlot found) (if t then [] else record { line = r.statement.line; at = address_in b r; len = length_of r; counted = is_counted r.statement.body } ∷ [])
-    by true e = tt
-    by false e =
-        let not : (length_of r ≡ 0 → ⊥) = eqb-false (length_of r) 0 e in
-        let some : 0 < length_of r = some_of (length_of r) not in
-        (record { some = some; within = fits.within some; has = has_each globals b found r is }, tt)
-      where
-        some_of : (n : ℕ) → (n ≡ 0 → ⊥) → 0 < n
-        some_of zero differs = absurd (differs refl)
-        some_of (suc n) differs = omega arith
+        → AllByRecursion (IsSlot found)
+        (if t then option_map_or (λ s. symbol_slot b s ∷ []) (named_by r) []
+        else record { line = r.statement.line; at = address_in b r; len = length_of r; shown = shown_as r.statement.body } ∷ [])
+    by true e = named (named_by r)
+    by false e = (record { within = fits.within; has = has_each globals b found r is }, tt)
 
 both_slots : (found : ℕ → Option ℕ) (xs ys : List Slot) → AllByRecursion (IsSlot found) xs → AllByRecursion (IsSlot found) ys
     → AllByRecursion (IsSlot found) (xs ++ ys)
@@ -193,51 +192,31 @@ same_row globals b found r h =
     ∙ found_same found (address_in b r) 0 bytes (λ k v e. ap found (omega arith) ∙ h k v e)
 
 one_row : (globals : List Symbol) (b : Placement Module) (found : ℕ → Option ℕ) (r : Located) → IsFound globals b found r
-    → filter has_bytes (row_of globals b r ∷ []) ≡ map (kept_row found) (slots_at b r)
-one_row globals b found r h = elim (cases_Bool (length_of r == 0)) [
-  | inl t ↦
-      let none : length_of r ≡ 0 = eqb-true (length_of r) 0 t in
-      cond-false (has_bytes (row_of globals b r)) (row_of globals b r ∷ []) [] (le-ltb 0 (length bytes) (omega (arith, long, none)))
-      ∙ ap (map (kept_row found)) (sym (cond-true (length_of r == 0) [] (slot ∷ []) t))
-  | inr t ↦
-      let some : 0 < length_of r = some_of (length_of r) (eqb-false (length_of r) 0 t) in
-      cond-true (has_bytes (row_of globals b r)) (row_of globals b r ∷ []) [] (lt-ltb 0 (length bytes) (omega (arith, long, some)))
-      ∙ ap (λ bs. let run : Placed = record { at = address_in b r; bytes = bs } in
-      let row : Row = record { line = r.statement.line; run = run; counted = is_counted r.statement.body } in row ∷ []) (sym (same_row globals b found r h))
-      ∙ ap (map (kept_row found)) (sym (cond-false (length_of r == 0) [] (slot ∷ []) t))
-]
+    → rows_of globals b r ≡ map (kept_row found) (slots_at b r)
+one_row globals b found r h = by (length_of r == 0)
   where
-    bytes : List ℕ
-    bytes = bytes_of globals b r
-
-    long : length bytes ≡ length_of r
-    long = length-filled_bytes (value_in_module globals b) (address_in b r) (place_of r) r.statement.body
-
     slot : Slot
-    slot = record { line = r.statement.line; at = address_in b r; len = length_of r; counted = is_counted r.statement.body }
+    slot = record { line = r.statement.line; at = address_in b r; len = length_of r; shown = shown_as r.statement.body }
 
-    some_of : (n : ℕ) → (n ≡ 0 → ⊥) → 0 < n
-    some_of zero differs = absurd (differs refl)
-    some_of (suc n) differs = omega arith
+    named : (o : Option Symbol) → option_map_or (λ s. symbol_row b s ∷ []) o [] ≡ map (kept_row found) (option_map_or (λ s. symbol_slot b s ∷ []) o [])
+    named None = refl
+    named (Some s) = refl
 
-filter-first : (row : Row) (rows : List Row) → filter has_bytes (row ∷ rows) ≡ filter has_bytes (row ∷ []) ++ filter has_bytes rows
-filter-first row rows = by (has_bytes row) refl
-  where
-    by : (t : Bool) → has_bytes row ≡ t → filter has_bytes (row ∷ rows) ≡ filter has_bytes (row ∷ []) ++ filter has_bytes rows
-    by true e = cond-true (has_bytes row) (row ∷ filter has_bytes rows) (filter has_bytes rows) e
-        ∙ ap (λ xs. xs ++ filter has_bytes rows) (sym (cond-true (has_bytes row) (row ∷ []) [] e))
-    by false e = cond-false (has_bytes row) (row ∷ filter has_bytes rows) (filter has_bytes rows) e
-        ∙ ap (λ xs. xs ++ filter has_bytes rows) (sym (cond-false (has_bytes row) (row ∷ []) [] e))
+    by : (t : Bool) → (if t then option_map_or (λ s. symbol_row b s ∷ []) (named_by r) [] else row_of globals b r ∷ [])
+        ≡ map (kept_row found) (if t then option_map_or (λ s. symbol_slot b s ∷ []) (named_by r) [] else slot ∷ [])
+    by true = named (named_by r)
+    by false =
+        ap (λ bs. let run : Placed = record { at = address_in b r; bytes = bs } in
+        let row : Row = record { line = r.statement.line; run = run; shown = shown_as r.statement.body } in row ∷ []) (sym (same_row globals b found r h))
 
 rows_kept : (globals : List Symbol) (b : Placement Module) (found : ℕ → Option ℕ) (c : Counters) (xs : List Statement) → AreFound globals b found c xs
-    → filter has_bytes (map (row_of globals b) (located c xs)) ≡ map (kept_row found) (slots_from b c xs)
+    → flat_map (rows_of globals b) (located c xs) ≡ map (kept_row found) (slots_from b c xs)
 unfolding located
 rows_kept globals b found c [] h = refl
 rows_kept globals b found c (x ∷ xs) h =
     let r : Located = record { before = c; statement = x } in
-    let rest = map (row_of globals b) (located (after c x.body) xs) in
-    filter-first (row_of globals b r) rest
-    ∙ ap (λ rows. rows ++ filter has_bytes rest) (one_row globals b found r h.0)
+    let rest = flat_map (rows_of globals b) (located (after c x.body) xs) in
+    ap (λ rows. rows ++ rest) (one_row globals b found r h.0)
     ∙ ap (λ rows. map (kept_row found) (slots_at b r) ++ rows) (rows_kept globals b found (after c x.body) xs h.1)
     ∙ sym (map-append (kept_row found) (slots_at b r) (slots_from b (after c x.body) xs))
 

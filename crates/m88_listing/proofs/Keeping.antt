@@ -2,31 +2,47 @@
 use Rattle.std.proofs.Common.{◌≡◌, ℕ, zero, suc, ◌+◌, ◌<◌, ◌≤◌, Bool, true, false, List, [], ◌∷◌, length, map, take, refl, sym, ap, subst, ◌∙◌, arith, Option, Some, None}
 use Rattle.std.specs.Prelude.{◌==◌, IsSome, nat_lt, slice_get, unwrap_or}
 use Rattle.std.specs.List.{range_with_len}
+use Rattle.std.specs.Option.{option_map, option_map_or}
 use Rattle.std.proofs.lemmas.Bool.{cond-true, cond-false, eq-eqb, ltb-false, ltb-true, ne_eqb}
 use Rattle.m88_asm.specs.Counters.{Located, length_of}
 use Rattle.m88_link.specs.Bases.{Placement}
+use Rattle.m88_link.specs.declared.object.Symbol.{Symbol}
 use Rattle.m88_parse.specs.declared.unit.Module.{Module}
 use Rattle.m88_asm.specs.Units.{address_in}
-use Rattle.m88_listing.specs.Rows.{is_counted}
-use Rattle.m88_listing.specs.Inside.Slots.{found_bytes, slots_at}
+use Rattle.m88_listing.specs.Rows.{named_by, shown_as}
+use Rattle.m88_listing.specs.Inside.Slots.{found_bytes, slots_at, symbol_slot}
+use Rattle.m88_listing.specs.declared.slots.Shown.{Shown}
 use Rattle.m88_listing.specs.declared.slots.Slot.{Slot}
 
-same_slot : (line at other n m : ℕ) (counted kind : Bool) → at ≡ other → n ≡ m → counted ≡ kind
-    → ◌≡◌ {A = Slot} (record { line = line; at = at; len = n; counted = counted }) (record { line = line; at = other; len = m; counted = kind })
-same_slot line at other n m counted kind a b c =
-    ap (λ x. let s : Slot = record { line = line; at = x; len = n; counted = counted } in s) a
-    ∙ ap (λ x. let s : Slot = record { line = line; at = other; len = x; counted = counted } in s) b
-    ∙ ap (λ x. let s : Slot = record { line = line; at = other; len = m; counted = x } in s) c
+same_slot : (line at other n m : ℕ) (shown kind : Shown) → at ≡ other → n ≡ m → shown ≡ kind
+    → ◌≡◌ {A = Slot} (record { line = line; at = at; len = n; shown = shown }) (record { line = line; at = other; len = m; shown = kind })
+same_slot line at other n m shown kind a b c =
+    ap (λ x. let s : Slot = record { line = line; at = x; len = n; shown = shown } in s) a
+    ∙ ap (λ x. let s : Slot = record { line = line; at = other; len = x; shown = shown } in s) b
+    ∙ ap (λ x. let s : Slot = record { line = line; at = other; len = m; shown = x } in s) c
 
-pub slots_some : (b : Placement Module) (r : Located) (at len : ℕ) (counted : Bool) → 0 < len → len ≡ length_of r → at ≡ address_in b r
-    → counted ≡ is_counted r.statement.body
-    → ◌≡◌ {A = List Slot} (record { line = r.statement.line; at = at; len = len; counted = counted } ∷ []) (slots_at b r)
-slots_some b r at len counted some is here kind =
-    ap (λ s. s ∷ []) (same_slot r.statement.line at (address_in b r) len (length_of r) counted (is_counted r.statement.body) here is kind)
-    ∙ sym (cond-false (length_of r == 0) [] _ (ne_eqb (length_of r) 0 (λ e. absurd (omega (arith, some, is, e)))))
+-- the slots of what a statement names
+named : Placement Module → Option Symbol → List Slot
+named b o = option_map_or (λ s. symbol_slot b s ∷ []) o []
 
-pub slots_none : (b : Placement Module) (r : Located) (len : ℕ) → len ≡ 0 → len ≡ length_of r → [] ≡ slots_at b r
-slots_none b r len none is = sym (cond-true (length_of r == 0) [] _ (eq-eqb (length_of r) 0 (sym is ∙ none)))
+pub slots_some : (b : Placement Module) (r : Located) (at len : ℕ) (shown : Shown) → 0 < len → len ≡ length_of r → at ≡ address_in b r
+    → shown ≡ shown_as r.statement.body
+    → ◌≡◌ {A = List Slot} (record { line = r.statement.line; at = at; len = len; shown = shown } ∷ []) (slots_at b r)
+unfolding named
+slots_some b r at len shown some is here kind =
+    ap (λ s. s ∷ []) (same_slot r.statement.line at (address_in b r) len (length_of r) shown (shown_as r.statement.body) here is kind)
+    ∙ sym (cond-false (length_of r == 0) (named b (named_by r)) _ (ne_eqb (length_of r) 0 (λ e. absurd (omega (arith, some, is, e)))))
+
+pub slots_none : (b : Placement Module) (r : Located) (len : ℕ) (o : Option Slot) → len ≡ 0 → len ≡ length_of r
+    → o ≡ option_map (symbol_slot b) (named_by r) → option_map_or (λ s. s ∷ []) o [] ≡ slots_at b r
+unfolding named
+slots_none b r len o none is own =
+    ap (λ x. option_map_or (λ s. s ∷ []) x []) own ∙ by (named_by r)
+    ∙ sym (cond-true (length_of r == 0) (named b (named_by r)) _ (eq-eqb (length_of r) 0 (sym is ∙ none)))
+  where
+    by : (n : Option Symbol) → option_map_or (λ (s : Slot). s ∷ []) (option_map (symbol_slot b) n) [] ≡ option_map_or (λ s. symbol_slot b s ∷ []) n []
+    by None = refl
+    by (Some s) = refl
 
 -- the bytes that are found from an address on are the first of those that stand there in a row
 front_from : (found : ℕ → Option ℕ) (at n len : ℕ) (rest : List ℕ) → ((k : ℕ) → k < length rest → found (at + (n + k)) ≡ slice_get rest k)

@@ -5,6 +5,7 @@ pub mod NextNumber
 pub mod Standings
 pub mod Keeping
 pub mod Ordered
+pub mod Adding
 pub mod Fitting
 pub mod Climbing
 pub mod Showing

@@ -72,5 +72,5 @@ counted cell tail n d small last below e =
 regroup : (a b c d e f : List ℕ) → a ++ (b ++ (c ++ (d ++ (e ++ f)))) ≡ ((((a ++ b) ++ c) ++ d) ++ e) ++ f
 regroup a b c d e f = grind (arith, common_steps)
 
-pub head_is : (n : ℕ) → at_right 7 (decimal n) ++ blanks 30 ≡ columns n no_address []
-head_is n = regroup (at_right 7 (decimal n)) (blanks 2) no_address (blanks 2) (at_left 16 []) (blanks 2)
+pub head_is : (n : ℕ) → at_right 7 (decimal n) ++ blanks 33 ≡ columns n no_address []
+head_is n = regroup (at_right 7 (decimal n)) (blanks 2) no_address (blanks 2) (at_left 16 []) (blanks 5)

@@ -18,7 +18,7 @@ use Rattle.m88_link.specs.Symbols.{repeated_after}
 use Rattle.m88_link.specs.declared.object.Symbol.{Symbol}
 use Rattle.m88_asm.specs.Counters.{Counters, Located, after, at_begin, length_of, located, offset_of, place_of}
 use Rattle.m88_asm.specs.Faults.{duplicate_at, misfit_at, module_fault, statements_fault}
-use Rattle.m88_asm.specs.Objects.{lines_in, symbols_of}
+use Rattle.m88_asm.specs.Objects.{symbols_of}
 use Rattle.m88_link.specs.Bases.{Placement}
 use Rattle.m88_parse.specs.declared.unit.Module.{Module}
 use Rattle.m88_asm.specs.Units.{address_in, based, bytes_of, unit_layout, value_in_module}
@@ -26,22 +26,24 @@ use Rattle.m88_asm.proofs.Laws.{EachBased, first_parts, length-filled_bytes, non
 use Rattle.m88_listing.specs.Columns.{at_left, at_right, bare_line, blank, blanks, columns, further_columns, no_address}
 use Rattle.m88_listing.specs.Laws.{EachLineStandsOnce, has_number}
 use Rattle.m88_listing.proofs.Fitting.{each_clean, room_of}
-use Rattle.m88_listing.specs.Rows.{Row, digits, first_bytes, further_from, further_line, further_lines, has_bytes, lines_with, row_on, row_lines, row_of, rows_in, rows_of_unit}
+use Rattle.m88_listing.specs.Rows.{Row, digits, first_bytes, first_of_run, further_line, further_lines, further_of_run, lines_with, named_by, row_on, row_lines, row_of, rows_in, rows_of, rows_of_unit, symbol_row}
+use Rattle.m88_listing.specs.declared.slots.Shown.{Shown}
+use Rattle.m88_listing.specs.declared.slots.Shown.TheVariants.{Bytes, Value, Zeros}
 
 -- the lines of which this law speaks
 abbrev picked : List (List ℕ) → List (List ℕ)
-picked lines = map (drop 37) (filter has_number lines)
+picked lines = map (drop 40) (filter has_number lines)
 
-pick-first : (x : List ℕ) (xs : List (List ℕ)) → has_number x ≡ true → picked (x ∷ xs) ≡ drop 37 x ∷ picked xs
-pick-first x xs e = ap (map (drop 37)) (cond-true (has_number x) (x ∷ filter has_number xs) (filter has_number xs) e)
+pick-first : (x : List ℕ) (xs : List (List ℕ)) → has_number x ≡ true → picked (x ∷ xs) ≡ drop 40 x ∷ picked xs
+pick-first x xs e = ap (map (drop 40)) (cond-true (has_number x) (x ∷ filter has_number xs) (filter has_number xs) e)
 
 pick-none : (x : List ℕ) (xs : List (List ℕ)) → has_number x ≡ false → picked (x ∷ xs) ≡ picked xs
-pick-none x xs e = ap (map (drop 37)) (cond-false (has_number x) (x ∷ filter has_number xs) (filter has_number xs) e)
+pick-none x xs e = ap (map (drop 40)) (cond-false (has_number x) (x ∷ filter has_number xs) (filter has_number xs) e)
 
 picked-append : (xs ys : List (List ℕ)) → picked (xs ++ ys) ≡ picked xs ++ picked ys
 picked-append [] ys = refl
 picked-append (x ∷ xs) ys = elim (cases_Bool (has_number x)) [
-  | inl t ↦ pick-first x (xs ++ ys) t ∙ ap (λ ls. drop 37 x ∷ ls) (picked-append xs ys) ∙ ap (λ ls. ls ++ picked ys) (sym (pick-first x xs t))
+  | inl t ↦ pick-first x (xs ++ ys) t ∙ ap (λ ls. drop 40 x ∷ ls) (picked-append xs ys) ∙ ap (λ ls. ls ++ picked ys) (sym (pick-first x xs t))
   | inr t ↦ pick-none x (xs ++ ys) t ∙ picked-append xs ys ∙ ap (λ ls. ls ++ picked ys) (sym (pick-none x xs t))
 ]
 
@@ -76,7 +78,7 @@ digit_high (suc m) i d l k =
     length_map (x ∷ xs) = ap suc (length_map xs)
 
 -- the first line for a line of the source
-wide : (n : ℕ) (address bytes : List ℕ) → n < 10 ^ 7 → length address ≡ 8 → length bytes ≤ 16 → length (columns n address bytes) ≡ 37
+wide : (n : ℕ) (address bytes : List ℕ) → n < 10 ^ 7 → length address ≡ 8 → length bytes ≤ 16 → length (columns n address bytes) ≡ 40
 wide n address bytes l a b =
     let d = length-decimal-le 7 n (omega arith) l (omega (arith, l)) in
     let r = at_right 7 (decimal n) in
@@ -85,6 +87,7 @@ wide n address bytes l a b =
     let e3 = length-append bytes (blanks (16 - length bytes)) in
     let e4 = length-replicate (16 - length bytes) blank in
     let two = blanks 2 in
+    let five = blanks 5 in
     let left = at_left 16 bytes in
     omega (
       arith,
@@ -99,7 +102,7 @@ wide n address bytes l a b =
       length-append (r ++ two) address,
       length-append (r ++ two ++ address) two,
       length-append (r ++ two ++ address ++ two) left,
-      length-append (r ++ two ++ address ++ two ++ left) two,
+      length-append (r ++ two ++ address ++ two ++ left) five,
     )
 
 numbered_front : (n : ℕ) (rest : List ℕ) → n < 10 ^ 7 → has_number (blanks (7 - length (decimal n)) ++ (decimal n ++ rest)) ≡ true
@@ -122,12 +125,12 @@ numbered_line : (n : ℕ) (address bytes line : List ℕ) → n < 10 ^ 7 → has
 numbered_line n address bytes line l =
     let ds = decimal n in
     let front = blanks (7 - length ds) in
-    let rest = blanks 2 ++ address ++ blanks 2 ++ at_left 16 bytes ++ blanks 2 ++ line in
-    let all : columns n address bytes ++ line ≡ front ++ (ds ++ rest) = regroup front ds (blanks 2) address (at_left 16 bytes) line in
+    let rest = blanks 2 ++ address ++ blanks 2 ++ at_left 16 bytes ++ blanks 5 ++ line in
+    let all : columns n address bytes ++ line ≡ front ++ (ds ++ rest) = regroup front ds (blanks 2) address (at_left 16 bytes) (blanks 5) line in
     ap has_number all ∙ numbered_front n rest l
   where
-    regroup : (a b two c d e : List ℕ) → ((a ++ b) ++ two ++ c ++ two ++ d ++ two) ++ e ≡ a ++ (b ++ (two ++ c ++ two ++ d ++ two ++ e))
-    regroup a b two c d e = grind (arith, common_steps)
+    regroup : (a b two c d five e : List ℕ) → ((a ++ b) ++ two ++ c ++ two ++ d ++ five) ++ e ≡ a ++ (b ++ (two ++ c ++ two ++ d ++ five ++ e))
+    regroup a b two c d five e = grind (arith, common_steps)
 
 -- of an empty line that puts nothing anywhere there is the number alone
 alone_picked : (n : ℕ) → n < 10 ^ 7 → picked (at_right 7 (decimal n) ∷ []) ≡ [] ∷ []
@@ -137,15 +140,15 @@ alone_picked n l =
     let few = length-decimal-le 7 n (omega arith) l (omega (arith, l)) in
     let has : has_number (front ++ ds) ≡ true =
     ap (λ xs. has_number (front ++ xs)) (sym (append-nil ds)) ∙ numbered_front n [] l in
-    let narrow : length (front ++ ds) ≤ 37 =
+    let narrow : length (front ++ ds) ≤ 40 =
     omega (arith, few, length-append front ds, length-replicate (7 - length ds) blank) in
-    pick-first (front ++ ds) [] has ∙ ap (λ x. x ∷ []) (drop_all 37 (front ++ ds) narrow)
+    pick-first (front ++ ds) [] has ∙ ap (λ x. x ∷ []) (drop_all 40 (front ++ ds) narrow)
 
 first_picked : (n : ℕ) (address bytes line : List ℕ) (more : List (List ℕ)) → n < 10 ^ 7 → length address ≡ 8 → length bytes ≤ 16
     → picked ((columns n address bytes ++ line) ∷ more) ≡ line ∷ picked more
 first_picked n address bytes line more l a b =
     pick-first (columns n address bytes ++ line) more (numbered_line n address bytes line l)
-    ∙ ap (λ x. x ∷ picked more) (behind (columns n address bytes) line 37 (wide n address bytes l a b))
+    ∙ ap (λ x. x ∷ picked more) (behind (columns n address bytes) line 40 (wide n address bytes l a b))
 
 -- no further line has a number
 further_none : (address bytes : List ℕ) → has_number (further_columns address bytes) ≡ false
@@ -162,24 +165,26 @@ length-digits [] = refl
 length-digits (b ∷ bs) = omega (arith, length-append (hex2 b) (digits bs), length-digits bs)
 
 narrow : (row : Row) → length row.run.bytes ≤ most_bytes → length (first_bytes row) ≤ 16
-narrow row few = by row.counted
+narrow row few = by row.shown
   where
-    by : (t : Bool) → length (if t then codes "00 x " ++ decimal (length row.run.bytes) else digits (take 8 row.run.bytes)) ≤ 16
-    by true =
+    by : (shown : Shown) → length (first_of_run shown row.run.bytes) ≤ 16
+    by Zeros =
         let d = length-decimal-le 7 (length row.run.bytes) (omega arith) (omega (arith, few)) (omega (arith, few)) in
         omega (arith, d, length-append (codes "00 x ") (decimal (length row.run.bytes)))
-    by false = omega (arith, length-digits (take 8 row.run.bytes), length-take 8 row.run.bytes)
+    by Bytes = omega (arith, length-digits (take 8 row.run.bytes), length-take 8 row.run.bytes)
+    by Value = omega arith
 
 AreFew : List Row → Type 0
 AreFew rows = AllByRecursion (λ row. length row.run.bytes ≤ most_bytes) rows
 
 -- each line of the source has one line with its number
 further_all : (row : Row) → picked (further_lines row) ≡ []
-further_all row = by row.counted
+further_all row = by row.shown
   where
-    by : (t : Bool) → picked (if t then [] else further_from row.run.at 1 (drop 8 row.run.bytes)) ≡ []
-    by true = refl
-    by false = further_picked row.run.at (enumerate_from 1 (pieces 8 (drop 8 row.run.bytes)))
+    by : (shown : Shown) → picked (further_of_run shown row.run) ≡ []
+    by Zeros = refl
+    by Value = refl
+    by Bytes = further_picked row.run.at (enumerate_from 1 (pieces 8 (drop 8 row.run.bytes)))
 
 one_block : (rows : List Row) (n : ℕ) (line : List ℕ) → AreFew rows → n < 10 ^ 7 → picked (lines_with rows (n, line)) ≡ line ∷ []
 unfolding AreFew
@@ -204,38 +209,41 @@ all_blocks rows n (line ∷ lines) few l =
     ∙ ap (λ ls. line ∷ ls) (all_blocks rows (n + 1) lines few (omega (arith, l)))
 
 -- no row of a unit that is accepted has more bytes than a section may have
-kept_few : (rows : List Row) → AreFew rows → AreFew (filter has_bytes rows)
-unfolding AreFew
-kept_few [] few = tt
-kept_few (row ∷ rows) few = elim (cases_Bool (has_bytes row)) [
-  | inl t ↦ subst AreFew (sym (cond-true (has_bytes row) (row ∷ filter has_bytes rows) (filter has_bytes rows) t)) (few.0, kept_few rows few.1)
-  | inr t ↦ subst AreFew (sym (cond-false (has_bytes row) (row ∷ filter has_bytes rows) (filter has_bytes rows) t)) (kept_few rows few.1)
-]
-
 both_few : (xs ys : List Row) → AreFew xs → AreFew ys → AreFew (xs ++ ys)
 unfolding AreFew
 both_few [] ys p q = q
 both_few (x ∷ xs) ys p q = (p.0, both_few xs ys p.1 q)
 
+one_few : (globals : List Symbol) (b : Placement Module) (r : Located) → length (bytes_of globals b r) ≤ most_bytes → AreFew (rows_of globals b r)
+unfolding AreFew
+one_few globals b r few = by (length_of r == 0)
+  where
+    named : (o : Option Symbol) → AreFew (option_map_or (λ s. symbol_row b s ∷ []) o [])
+    named None = tt
+    named (Some s) = (omega arith, tt)
+
+    by : (t : Bool) → AreFew (if t then option_map_or (λ s. symbol_row b s ∷ []) (named_by r) [] else row_of globals b r ∷ [])
+    by true = named (named_by r)
+    by false = (few, tt)
+
 rows_few : (globals defined : List Symbol) (b : Placement Module) (c : Counters) (xs : List Statement) → statements_fault defined (located c xs) ≡ None
-    → AreFew (map (row_of globals b) (located c xs))
+    → AreFew (flat_map (rows_of globals b) (located c xs))
 unfolding AreFew located
 rows_few globals defined b c [] clean = tt
 rows_few globals defined b c (x ∷ xs) clean =
     let r : Located = record { before = c; statement = x } in
     let parts = first_parts defined c x xs clean in
     let misfit = (none_of_both (option_map duplicate_at (repeated_after defined (symbols_of r))) (misfit_at (offset_of r) (place_of r) x) parts.0).1 in
-    let long : length (bytes_of globals b r) ≡ length_of r = length-filled_bytes (value_in_module globals b) (address_in b r) (place_of r) x.body in (
-      omega (arith, long, room_of r misfit),
-      rows_few globals (defined ++ symbols_of r) b (after c x.body) xs parts.1,
-    )
+    let long : length (bytes_of globals b r) ≡ length_of r = length-filled_bytes (value_in_module globals b) (address_in b r) (place_of r) x.body in
+    both_few (rows_of globals b r) (flat_map (rows_of globals b) (located (after c x.body) xs))
+    (one_few globals b r (omega (arith, long, room_of r misfit))) (rows_few globals (defined ++ symbols_of r) b (after c x.body) xs parts.1)
 
 modules_few : (globals : List Symbol) (bs : List (Placement Module)) → EachBased (λ b. module_fault b.part ≡ None) bs → AreFew (flat_map (rows_in globals) bs)
 unfolding AreFew
 modules_few globals [] clean = tt
 modules_few globals (b ∷ bs) clean =
     both_few (rows_in globals b) (flat_map (rows_in globals) bs)
-    (kept_few (map (row_of globals b) (lines_in b.part)) (rows_few globals [] b at_begin b.part.statements clean.0)) (modules_few globals bs clean.1)
+    (rows_few globals [] b at_begin b.part.statements clean.0) (modules_few globals bs clean.1)
 
 pub each_line_stands_once : EachLineStandsOnce
 each_line_stands_once = λ source u short accepted.

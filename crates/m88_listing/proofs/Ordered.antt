@@ -1,5 +1,5 @@
 -- A stable sort by the value keeps the entries of each value in their order.
-use Rattle.std.proofs.Common.{◌≡◌, ℕ, suc, ◌<◌, Bool, true, false, inl, inr, List, [], ◌∷◌, length, filter, refl, sym, ap, ◌∙◌, arith}
+use Rattle.std.proofs.Common.{◌≡◌, ℕ, suc, ◌<◌, Bool, true, false, inl, inr, List, [], ◌∷◌, length, filter, refl, sym, ap, ◌∙◌, arith, None}
 use Rattle.std.specs.Prelude.{◌==◌, slice_index_or}
 use Rattle.std.proofs.lemmas.Bool.{cases_order, cond-true, cond-false, eq-eqb, ne_eqb}
 use Rattle.std.specs.List.Sorted.{IsNonDecreasingBy, IsStableByKey, ties}
@@ -18,7 +18,7 @@ pub in_order : (entries ordered : List Entry) → IsNonDecreasingBy (λ (e : Ent
 in_order entries ordered ascend stable = record {
   ascend = ascend;
   same = λ value.
-      let x : Entry = record { value = value; name = []; owner = []; line = 0; global = false } in
+      let x : Entry = record { value = value; section = None; name = []; owner = []; line = 0; global = false } in
       let test : ties (λ (a b : Entry). is_lt (nat_cmp a.value b.value)) x ≡ has_value value = fun_ext (one_value x) in
       ap (λ p. filter p ordered) (sym test) ∙ stable x ∙ ap (λ p. filter p entries) test;
 }

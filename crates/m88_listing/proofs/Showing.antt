@@ -1,23 +1,23 @@
 -- The lines of a source show the bytes of its image.
-use Rattle.std.proofs.Common.{◌≡◌, ℕ, ◌≤◌, Bool, true, false, inl, inr, List, [], ◌∷◌, ◌++◌, length, map, filter, refl, sym, ap, ◌∙◌, subst, arith, Option, Some, None}
-use Rattle.std.specs.Prelude.{◌⊎◌, flat_map, nat_lt}
-use Rattle.std.specs.Option.{option_or}
-use Rattle.std.proofs.lemmas.Bool.{cases_Bool, cond-true, cond-false, ltb-false}
+use Rattle.std.proofs.Common.{◌≡◌, ℕ, ◌≤◌, Bool, true, false, inl, inr, List, [], ◌∷◌, ◌++◌, length, map, refl, sym, ap, ◌∙◌, subst, arith, Option, Some, None}
+use Rattle.std.specs.Prelude.{◌==◌, ◌⊎◌, flat_map, if◌then◌else◌, nat_lt}
+use Rattle.std.specs.Option.{option_map_or, option_or}
+use Rattle.std.proofs.lemmas.Bool.{eqb-true, ltb-false}
 use Rattle.std.proofs.lemmas.Bool.Decides.{nat_tests}
 use Rattle.m88_base.proofs.Laws.{byte_among-append, byte_in_above, byte_in_below}
 use Rattle.m88_base.specs.Image.{byte_at}
 use Rattle.m88_base.specs.Lines.{lines_of}
 use Rattle.m88_base.specs.Placed.{Placed, byte_among, byte_in}
 use Rattle.m88_link.specs.declared.object.Symbol.{Symbol}
-use Rattle.m88_asm.specs.Counters.{Located}
+use Rattle.m88_asm.specs.Counters.{Located, length_of, place_of}
 use Rattle.m88_asm.specs.Images.{run_of, runs_in}
 use Rattle.m88_asm.specs.Objects.{lines_in}
 use Rattle.m88_link.specs.Bases.{Placement}
 use Rattle.m88_parse.specs.declared.unit.Module.{Module}
-use Rattle.m88_asm.specs.Units.{based, unit_layout}
-use Rattle.m88_asm.proofs.Laws.{Has, has_left, has_right}
+use Rattle.m88_asm.specs.Units.{address_in, based, bytes_of, unit_layout, value_in_module}
+use Rattle.m88_asm.proofs.Laws.{Has, has_left, has_right, length-filled_bytes}
 use Rattle.m88_listing.specs.Laws.{EachShowsItsImage, Shows, shown_runs}
-use Rattle.m88_listing.specs.Rows.{Row, has_bytes, row_of, rows_in, rows_of_unit}
+use Rattle.m88_listing.specs.Rows.{Row, named_by, row_of, rows_in, rows_of, rows_of_unit, symbol_row}
 use Rattle.m88_listing.specs.Inside.Slots.{kept_row, slots_of}
 use Rattle.m88_listing.proofs.Climbing.{shown_all, unit_climbs}
 use Rattle.m88_listing.proofs.Fitting.{found_in, unit_kept}
@@ -44,55 +44,64 @@ runs-append : (xs ys : List Row) → runs (xs ++ ys) ≡ runs xs ++ runs ys
 runs-append [] ys = refl
 runs-append (x ∷ xs) ys = ap (λ rs. x.run ∷ rs) (runs-append xs ys)
 
--- a run that has a byte has some
+-- a run without bytes has none at any address
 some_none : (o : Option ℕ) (v : ℕ) → o ≡ None → o ≡ Some v → ⊥
 some_none o v n h = cc
 
-has_some : (row : Row) (a b : ℕ) → byte_in row.run a ≡ Some b → has_bytes row ≡ true
-has_some row a b h = elim (cases_Bool (has_bytes row)) [
-  | inl t ↦ t
-  | inr t ↦
-      let none : length row.run.bytes ≤ 0 = ltb-false 0 (length row.run.bytes) t in
-      absurd (some_none (byte_in row.run a) b (empty none) h)
-]
+empty_run : (run : Placed) (a : ℕ) → length run.bytes ≤ 0 → byte_in run a ≡ None
+empty_run run a none = by (nat_lt a run.at) refl
   where
-    empty : length row.run.bytes ≤ 0 → byte_in row.run a ≡ None
-    empty none = by (nat_lt a row.run.at) refl
-      where
-        by : (t : Bool) → nat_lt a row.run.at ≡ t → byte_in row.run a ≡ None
-        by true t = byte_in_below row.run a (grind (arith, nat_tests))
-        by false t = byte_in_above row.run a (omega (arith, none, ltb-false a row.run.at t))
-
--- what rows with bytes show is what all rows show
-kept_shows : (globals : List Symbol) (bs : Placement Module) (rs : List Located) (a b : ℕ)
-    → Shows (runs (filter has_bytes (map (row_of globals bs) rs))) a b → Has (map (run_of globals bs) rs) a b
-unfolding Has
-kept_shows globals bs [] a b h = h
-kept_shows globals bs (r ∷ rs) a b h = by (has_bytes (row_of globals bs r)) refl (kept_shows globals bs rs a b)
-  where
-    row : Row
-    row = row_of globals bs r
-
-    rest : List Row
-    rest = filter has_bytes (map (row_of globals bs) rs)
-
-    by : (t : Bool) → has_bytes row ≡ t → (Shows (runs rest) a b → Has (map (run_of globals bs) rs) a b)
-        → (byte_in row.run a ≡ Some b) ⊎ Has (map (run_of globals bs) rs) a b
-    by true t next =
-        pick (subst (λ (xs : List Row). Shows (runs xs) a b) (cond-true (has_bytes row) (row ∷ rest) rest t) h)
-      where
-        pick : (byte_in row.run a ≡ Some b) ⊎ Shows (runs rest) a b → (byte_in row.run a ≡ Some b) ⊎ Has (map (run_of globals bs) rs) a b
-        pick (inl e) = inl e
-        pick (inr e) = inr (next e)
-    by false t next = inr (next (subst (λ (xs : List Row). Shows (runs xs) a b) (cond-false (has_bytes row) (row ∷ rest) rest t) h))
-
-has_append : (ps qs : List Placed) (a b : ℕ) → Has ps a b ⊎ Has qs a b → Has (ps ++ qs) a b
-has_append ps qs a b (inl h) = has_left ps qs a b h
-has_append ps qs a b (inr h) = has_right ps qs a b h
+    by : (t : Bool) → nat_lt a run.at ≡ t → byte_in run a ≡ None
+    by true t = byte_in_below run a (grind (arith, nat_tests))
+    by false t = byte_in_above run a (omega (arith, none, ltb-false a run.at t))
 
 both : {A B C D : Type 0} → (A → C) → (B → D) → A ⊎ B → C ⊎ D
 both f g (inl x) = inl (f x)
 both f g (inr x) = inr (g x)
+
+-- the rows of a statement show what it gives
+one_shows : (globals : List Symbol) (bs : Placement Module) (r : Located) (a b : ℕ) → Shows (runs (rows_of globals bs r)) a b
+    → byte_in (run_of globals bs r) a ≡ Some b
+one_shows globals bs r a b = by (length_of r == 0)
+  where
+    named : (o : Option Symbol) → Shows (runs (option_map_or (λ s. symbol_row bs s ∷ []) o [])) a b → byte_in (run_of globals bs r) a ≡ Some b
+    named None h = absurd h
+    named (Some s) (inl e) = absurd (some_none (byte_in (symbol_row bs s).run a) b (empty_run (symbol_row bs s).run a (omega arith)) e)
+    named (Some s) (inr h) = absurd h
+
+    by : (t : Bool) → Shows (runs (if t then option_map_or (λ s. symbol_row bs s ∷ []) (named_by r) [] else row_of globals bs r ∷ [])) a b
+        → byte_in (run_of globals bs r) a ≡ Some b
+    by true h = named (named_by r) h
+    by false (inl e) = e
+    by false (inr h) = absurd h
+
+one_shown : (globals : List Symbol) (bs : Placement Module) (r : Located) (a b : ℕ) → byte_in (run_of globals bs r) a ≡ Some b
+    → Shows (runs (rows_of globals bs r)) a b
+one_shown globals bs r a b e = by (length_of r == 0) refl
+  where
+    long : length (bytes_of globals bs r) ≡ length_of r
+    long = length-filled_bytes (value_in_module globals bs) (address_in bs r) (place_of r) r.statement.body
+
+    by : (t : Bool) → (length_of r == 0) ≡ t
+        → Shows (runs (if t then option_map_or (λ s. symbol_row bs s ∷ []) (named_by r) [] else row_of globals bs r ∷ [])) a b
+    by true t =
+        let none : length_of r ≡ 0 = eqb-true (length_of r) 0 t in
+        absurd (some_none (byte_in (run_of globals bs r) a) b (empty_run (run_of globals bs r) a (omega (arith, long, none))) e)
+    by false t = inl e
+
+-- and so do those of statements
+kept_shows : (globals : List Symbol) (bs : Placement Module) (rs : List Located) (a b : ℕ)
+    → Shows (runs (flat_map (rows_of globals bs) rs)) a b → Has (map (run_of globals bs) rs) a b
+unfolding Has
+kept_shows globals bs [] a b h = h
+kept_shows globals bs (r ∷ rs) a b h =
+    both (one_shows globals bs r a b) (kept_shows globals bs rs a b)
+    (shows_either (runs (rows_of globals bs r)) (runs (flat_map (rows_of globals bs) rs)) a b
+    (subst (λ ps. Shows ps a b) (runs-append (rows_of globals bs r) (flat_map (rows_of globals bs) rs)) h))
+
+has_append : (ps qs : List Placed) (a b : ℕ) → Has ps a b ⊎ Has qs a b → Has (ps ++ qs) a b
+has_append ps qs a b (inl h) = has_left ps qs a b h
+has_append ps qs a b (inr h) = has_right ps qs a b h
 
 modules_show : (globals : List Symbol) (bs : List (Placement Module)) (a b : ℕ)
     → Shows (runs (flat_map (rows_in globals) bs)) a b → Has (flat_map (runs_in globals) bs) a b
@@ -105,37 +114,22 @@ modules_show globals (x ∷ bs) a b h =
     (subst (λ ps. Shows ps a b) (runs-append (rows_in globals x) (flat_map (rows_in globals) bs)) h)))
 
 -- and the other way round
-found_row : (globals : List Symbol) (bs : Placement Module) (rs : List Located) (a b : ℕ) → byte_among (map (run_of globals bs) rs) a ≡ Some b
-    → Shows (runs (filter has_bytes (map (row_of globals bs) rs))) a b
-found_row globals bs [] a b h = cc
-found_row globals bs (r ∷ rs) a b h =
-    by (byte_in row.run a) refl (has_bytes row) refl (found_row globals bs rs a b)
-  where
-    row : Row
-    row = row_of globals bs r
-
-    rest : List Row
-    rest = filter has_bytes (map (row_of globals bs) rs)
-
-    by : (o : Option ℕ) → byte_in row.run a ≡ o → (t : Bool) → has_bytes row ≡ t
-        → (byte_among (map (run_of globals bs) rs) a ≡ Some b → Shows (runs rest) a b) → Shows (runs (filter has_bytes (row ∷ map (row_of globals bs) rs))) a b
-    by (Some v) e true t next =
-        let value : Some v ≡ Some b = ap (λ o. option_or o (byte_among (map (run_of globals bs) rs) a)) (sym e) ∙ h in
-        subst (λ (xs : List Row). Shows (runs xs) a b) (sym (cond-true (has_bytes row) (row ∷ rest) rest t)) (inl (e ∙ value))
-    by (Some v) e false t next = absurd (true_false (has_bytes row) (has_some row a v e) t)
-      where
-        true_false : (t : Bool) → t ≡ true → t ≡ false → ⊥
-        true_false t a b = cc
-    by None e true t next =
-        let later = ap (λ o. option_or o (byte_among (map (run_of globals bs) rs) a)) (sym e) ∙ h in
-        subst (λ (xs : List Row). Shows (runs xs) a b) (sym (cond-true (has_bytes row) (row ∷ rest) rest t)) (inr (next later))
-    by None e false t next =
-        let later = ap (λ o. option_or o (byte_among (map (run_of globals bs) rs) a)) (sym e) ∙ h in
-        subst (λ (xs : List Row). Shows (runs xs) a b) (sym (cond-false (has_bytes row) (row ∷ rest) rest t)) (next later)
-
 either_some : (o q : Option ℕ) (v : ℕ) → option_or o q ≡ Some v → (o ≡ Some v) ⊎ (q ≡ Some v)
 either_some (Some x) q v h = inl h
 either_some None q v h = inr h
+
+found_row : (globals : List Symbol) (bs : Placement Module) (rs : List Located) (a b : ℕ) → byte_among (map (run_of globals bs) rs) a ≡ Some b
+    → Shows (runs (flat_map (rows_of globals bs) rs)) a b
+found_row globals bs [] a b h = cc
+found_row globals bs (r ∷ rs) a b h =
+    subst (λ ps. Shows ps a b) (sym (runs-append (rows_of globals bs r) (flat_map (rows_of globals bs) rs)))
+    (joined (either_some (byte_in (run_of globals bs r) a) (byte_among (map (run_of globals bs) rs) a) b h) (found_row globals bs rs a b))
+  where
+    joined : (byte_in (run_of globals bs r) a ≡ Some b) ⊎ (byte_among (map (run_of globals bs) rs) a ≡ Some b)
+        → (byte_among (map (run_of globals bs) rs) a ≡ Some b → Shows (runs (flat_map (rows_of globals bs) rs)) a b)
+        → Shows (runs (rows_of globals bs r) ++ runs (flat_map (rows_of globals bs) rs)) a b
+    joined (inl e) next = shows_left _ _ a b (one_shown globals bs r a b e)
+    joined (inr e) next = shows_right (runs (rows_of globals bs r)) _ a b (next e)
 
 shown_kept : (globals : List Symbol) (bs : List (Placement Module)) (a b : ℕ)
     → byte_among (flat_map (runs_in globals) bs) a ≡ Some b → Shows (runs (flat_map (rows_in globals) bs)) a b

@@ -13,6 +13,7 @@ use Rattle.m88_listing.specs.Columns.{at_left, bare_line, blanks, columns}
 use Rattle.m88_listing.specs.Refused.{below, mark_line}
 use Rattle.m88_listing.specs.Rows.{digits, further_from, further_line, row_lines}
 use Rattle.m88_listing.specs.Inside.Slots.{found_bytes, kept_row, walked}
+use Rattle.m88_listing.specs.declared.slots.Shown.TheVariants.{Bytes, Value, Zeros}
 use Rattle.m88_listing.specs.declared.slots.Slot.{Slot}
 
 -- the text of lines behind lines
@@ -22,21 +23,21 @@ text_append (x ∷ xs) ys =
     ap (λ t. (x ++ line_end) ++ t) (text_append xs ys) ∙ sym (append_assoc (x ++ line_end) (text_of_lines xs) (text_of_lines ys))
 
 -- the columns before a line of the source, filled from where the bytes' column begins
-regroup : (old r two a content rest line end : List ℕ)
-    → ((old ++ (r ++ two ++ a ++ two)) ++ content) ++ (rest ++ two ++ line ++ end) ≡ old ++ (r ++ two ++ a ++ two ++ (content ++ rest) ++ two ++ line ++ end)
-regroup old r two a content rest line end = grind (arith, common_steps)
+regroup : (old r two a content rest five line end : List ℕ)
+    → ((old ++ (r ++ two ++ a ++ two)) ++ content) ++ (rest ++ five ++ line ++ end) ≡ old ++ (r ++ two ++ a ++ two ++ (content ++ rest) ++ five ++ line ++ end)
+regroup old r two a content rest five line end = grind (arith, common_steps)
 
 pub filled : (old r a content line t1 t2 new : List ℕ) (begin : ℕ)
     → t1 ≡ old ++ (r ++ blanks 2 ++ a ++ blanks 2) → begin ≡ length t1 → t2 ≡ t1 ++ content
-    → new ≡ t2 ++ (blanks (16 - (length t2 - begin)) ++ blanks 2 ++ line ++ line_end)
-    → new ≡ old ++ ((r ++ blanks 2 ++ a ++ blanks 2 ++ at_left 16 content ++ blanks 2) ++ line ++ line_end)
+    → new ≡ t2 ++ (blanks (16 - (length t2 - begin)) ++ blanks 5 ++ line ++ line_end)
+    → new ≡ old ++ ((r ++ blanks 2 ++ a ++ blanks 2 ++ at_left 16 content ++ blanks 5) ++ line ++ line_end)
 filled old r a content line t1 t2 new begin e1 e2 e3 e4 =
     let long : length t2 ≡ length t1 + length content = ap length e3 ∙ length-append t1 content in
     let width : length t2 - begin ≡ length content = omega (arith, long, e2) in
     e4
-    ∙ ap (λ n. t2 ++ (blanks (16 - n) ++ blanks 2 ++ line ++ line_end)) width
-    ∙ ap (λ t. t ++ (blanks (16 - length content) ++ blanks 2 ++ line ++ line_end)) (e3 ∙ ap (λ t. t ++ content) e1)
-    ∙ regroup old r (blanks 2) a content (blanks (16 - length content)) line line_end
+    ∙ ap (λ n. t2 ++ (blanks (16 - n) ++ blanks 5 ++ line ++ line_end)) width
+    ∙ ap (λ t. t ++ (blanks (16 - length content) ++ blanks 5 ++ line ++ line_end)) (e3 ∙ ap (λ t. t ++ content) e1)
+    ∙ regroup old r (blanks 2) a content (blanks (16 - length content)) (blanks 5) line line_end
 
 -- one further line more
 pub further_more : (now later all piece rest bytes : List ℕ) (at number : ℕ) → bytes ≡ piece ++ rest
@@ -61,7 +62,7 @@ further_done now all rest at number none before =
     ∙ before
 
 -- the lines of a row whose bytes are told as a count
-pub counted_row : (found : ℕ → Option ℕ) (number : ℕ) (line old new : List ℕ) (s : Slot) → s.counted ≡ true
+pub counted_row : (found : ℕ → Option ℕ) (number : ℕ) (line old new : List ℕ) (s : Slot) → s.shown ≡ Zeros
     → new ≡ old ++ (columns number (hex8 s.at) (codes "00 x " ++ decimal s.len) ++ line ++ line_end)
     → new ≡ old ++ text_of_lines (row_lines number line (kept_row found s))
 counted_row found number line old new s is e =
@@ -71,8 +72,14 @@ counted_row found number line old new s is e =
     ∙ ap (λ t. old ++ t) (sym (append-nil _))
     ∙ rw is refl
 
+-- the lines of a row that has a value alone
+pub value_row : (found : ℕ → Option ℕ) (number : ℕ) (line old new : List ℕ) (s : Slot) → s.shown ≡ Value
+    → new ≡ old ++ (columns number (hex8 s.at) (codes "=") ++ line ++ line_end)
+    → new ≡ old ++ text_of_lines (row_lines number line (kept_row found s))
+value_row found number line old new s is e = e ∙ ap (λ t. old ++ t) (sym (append-nil _)) ∙ rw is refl
+
 -- the lines of a row whose bytes are shown
-pub shown_row : (found : ℕ → Option ℕ) (number n : ℕ) (line old mid new bytes shown behind : List ℕ) (s : Slot) → s.counted ≡ false
+pub shown_row : (found : ℕ → Option ℕ) (number n : ℕ) (line old mid new bytes shown behind : List ℕ) (s : Slot) → s.shown ≡ Bytes
     → bytes ≡ found_bytes found s.at s.len → n ≡ min s.len 8 → shown ≡ take n bytes → behind ≡ drop n bytes
     → mid ≡ old ++ (columns number (hex8 s.at) (digits shown) ++ line ++ line_end)
     → new ≡ mid ++ text_of_lines (further_from s.at 1 behind)
@@ -119,20 +126,28 @@ row_next found number line old new s (t ∷ ss) lines first is e =
 grow : (old xs ys t u : List ℕ) → t ≡ old ++ xs → u ≡ t ++ ys → u ≡ old ++ (xs ++ ys)
 grow old xs ys t u e f = f ∙ ap (λ s. s ++ ys) e ∙ append_assoc old xs ys
 
-pub entry_whole : (old value name owner number mark t1 t2 t3 t4 t5 t6 t7 t8 new : List ℕ)
-    → t1 ≡ old ++ value → t2 ≡ t1 ++ 32 ∷ [] → t3 ≡ t2 ++ name → t4 ≡ t3 ++ 32 ∷ [] → t5 ≡ t4 ++ owner → t6 ≡ t5 ++ 32 ∷ []
+pub entry_whole : (old value section name owner number mark t0 t1 t2 t3 t4 t5 t6 t7 t8 new : List ℕ)
+    → t0 ≡ old ++ value → t1 ≡ t0 ++ section → t2 ≡ t1 ++ 32 ∷ [] → t3 ≡ t2 ++ name → t4 ≡ t3 ++ 32 ∷ [] → t5 ≡ t4 ++ owner → t6 ≡ t5 ++ 32 ∷ []
     → t7 ≡ t6 ++ number → t8 ≡ t7 ++ mark → new ≡ t8 ++ 10 ∷ []
-    → new ≡ old ++ ((value ++ codes " " ++ name ++ codes " " ++ owner ++ codes " " ++ number ++ mark) ++ line_end)
-entry_whole old value name owner number mark t1 t2 t3 t4 t5 t6 t7 t8 new e1 e2 e3 e4 e5 e6 e7 e8 e9 =
+    → new ≡ old ++ ((value ++ section ++ codes " " ++ name ++ codes " " ++ owner ++ codes " " ++ number ++ mark) ++ line_end)
+entry_whole old value section name owner number mark t0 t1 t2 t3 t4 t5 t6 t7 t8 new e0 e1 e2 e3 e4 e5 e6 e7 e8 e9 =
+    grow old _ _ _ _ (grow old _ _ _ _ (grow old _ _ _ _ (grow old _ _ _ _ (grow old _ _ _ _ (grow old _ _ _ _ (grow old _ _ _ _ (grow old _ _ _ _
+    (grow old _ _ _ _ e0 e1) e2) e3) e4) e5) e6) e7) e8) e9
+
+-- the line of the sums, behind an empty one
+pub sums_whole : (old a b c d t1 t2 t3 t4 t5 t6 t7 t8 new : List ℕ) → t1 ≡ old ++ (10 ∷ codes "text ") → t2 ≡ t1 ++ a → t3 ≡ t2 ++ codes " data "
+    → t4 ≡ t3 ++ b → t5 ≡ t4 ++ codes " at " → t6 ≡ t5 ++ c → t7 ≡ t6 ++ codes " start " → t8 ≡ t7 ++ d → new ≡ t8 ++ 10 ∷ []
+    → new ≡ old ++ (line_end ++ ((codes "text " ++ a ++ codes " data " ++ b ++ codes " at " ++ c ++ codes " start " ++ d) ++ line_end))
+sums_whole old a b c d t1 t2 t3 t4 t5 t6 t7 t8 new e1 e2 e3 e4 e5 e6 e7 e8 e9 =
     grow old _ _ _ _ (grow old _ _ _ _ (grow old _ _ _ _ (grow old _ _ _ _ (grow old _ _ _ _ (grow old _ _ _ _ (grow old _ _ _ _
     (grow old _ _ _ _ e1 e2) e3) e4) e5) e6) e7) e8) e9
 
 -- the line with the mark
 pub mark_whole : (old line before t1 t2 new : List ℕ) (column at : ℕ) → at ≡ min (length line) (column - 1) → before ≡ take at line
-    → t1 ≡ old ++ blanks 37 → t2 ≡ t1 ++ map below before → new ≡ t2 ++ 94 ∷ 10 ∷ []
+    → t1 ≡ old ++ blanks 40 → t2 ≡ t1 ++ map below before → new ≡ t2 ++ 94 ∷ 10 ∷ []
     → new ≡ old ++ (mark_line column line ++ line_end)
 mark_whole old line before t1 t2 new column at here front e1 e2 e3 =
     let all : before ≡ take (column - 1) line = front ∙ ap (λ n. take n line) (here ∙ omega arith) ∙ take_min (column - 1) line in
     grow old _ _ _ _ (grow old _ _ _ _ e1 e2) e3
-    ∙ ap (λ b. old ++ ((blanks 37 ++ map below b) ++ 94 ∷ 10 ∷ [])) all
-    ∙ ap (λ t. old ++ t) (sym (append_assoc (blanks 37 ++ map below (take (column - 1) line)) (94 ∷ []) (10 ∷ [])))
+    ∙ ap (λ b. old ++ ((blanks 40 ++ map below b) ++ 94 ∷ 10 ∷ [])) all
+    ∙ ap (λ t. old ++ t) (sym (append_assoc (blanks 40 ++ map below (take (column - 1) line)) (94 ∷ []) (10 ∷ [])))

@@ -1,8 +1,9 @@
 -- The whole text of a listing, and what a reply says of a source that has nothing left.
-use Rattle.std.proofs.Common.{◌≡◌, ℕ, ◌<◌, ◌≤◌, ◌+◌, List, ◌++◌, Option, Some, Bool, true, false, inl, inr, IfSome, length, length-append, take, drop, ap, refl, sym, ◌∙◌, subst, arith}
+use Rattle.std.proofs.Common.{◌≡◌, ℕ, ◌<◌, ◌≤◌, List, ◌++◌, Option, Some, Bool, true, false, inl, inr, IfSome, length, length-append, take, drop, ap, refl, sym, ◌∙◌, subst, arith}
 use Rattle.std.specs.Prelude.{MatchBool, codes}
 use Rattle.std.proofs.KnownBytes.{Consumes-whole}
 use Rattle.std.proofs.lemmas.Bool.{ltb-false}
+use Rattle.std.proofs.lemmas.List.{append-nil}
 use Rattle.m88_base.specs.Image.{ProgramImage, byte_at, most_bytes}
 use Rattle.m88_base.specs.Lines.{line_end, lines_of, text_of_lines}
 use Rattle.m88_base.specs.Outside.{GivesAll}
@@ -14,9 +15,10 @@ use Rattle.m88_parse.specs.declared.unit.Unit.{Unit as Source}
 use Rattle.m88_link.proofs.Laws.{too_large_is}
 use Rattle.m88_link.specs.Refusal.{is_too_large}
 use Rattle.m88_link.specs.Sizes.{total_size}
+use Rattle.m88_link.specs.declared.object.Object.{Object}
 use Rattle.m88_asm.proofs.Laws.{extents_law, modules_sound}
 use Rattle.m88_asm.specs.Accepted.{IsAcceptedUnit}
-use Rattle.m88_asm.specs.Images.{IsUnitImage}
+use Rattle.m88_asm.specs.Images.{IsUnitImage, unit_start}
 use Rattle.m88_asm.specs.Objects.{objects_of}
 use Rattle.m88_asm.specs.Sources.{IsRefusedProgram}
 use Rattle.m88_asm.specs.Units.{based}
@@ -26,6 +28,7 @@ use Rattle.m88_listing.specs.Listing.{ListsAccepted, entry_lines, listing_lines}
 use Rattle.m88_listing.specs.Refused.{bare_text, line_at, mark_line, refused_text}
 use Rattle.m88_listing.specs.Inside.Replies.{ListsAs}
 use Rattle.m88_listing.specs.Rows.{numbered_lines, rows_of_unit, source_lines}
+use Rattle.m88_listing.specs.Sums.{sum_line, sum_lines}
 use Rattle.m88_listing.specs.Inside.Slots.{slots_of, walked}
 use Rattle.m88_listing.specs.declared.entries.Entry.{Entry}
 use Rattle.m88_listing.specs.declared.slots.Slot.{Slot}
@@ -41,13 +44,14 @@ size_fits u accepted =
     (sym (too_large_is (objects_of u) (modules_sound u.modules accepted.assembled)) ∙ ap is_too_large (extents_law u) ∙ accepted.linkable.fits)
 
 -- the parts of a listing are the listing
-pub listing_whole : (source t1 t2 t3 : List ℕ) (u : Source) (image : ProgramImage) (slots : List Slot) (labels numbers : List Entry)
-    → IsUnit source u → IsAcceptedUnit u → IsUnitImage u image → slots ≡ slots_of (based u) → numbers ≡ numbers_of u
+pub listing_whole : (source t1 t2 t3 t4 : List ℕ) (u : Source) (image : ProgramImage) (slots : List Slot) (labels numbers : List Entry)
+    (objects : List Object) → IsUnit source u → IsAcceptedUnit u → IsUnitImage u image → slots ≡ slots_of (based u) → numbers ≡ numbers_of u
     → t1 ≡ text_of_lines (walked (byte_at image) 1 (lines_of source) slots)
     → t2 ≡ t1 ++ text_of_lines (entry_lines (codes "labels") labels)
     → t3 ≡ t2 ++ text_of_lines (entry_lines (codes "numbers") numbers)
-    → t3 ≡ text_of_lines (listing_lines source u labels)
-listing_whole source t1 t2 t3 u image slots labels numbers is accepted own kept named e1 e2 e3 =
+    → objects ≡ objects_of u → t4 ≡ t3 ++ (line_end ++ (sum_line objects image.start ++ line_end))
+    → t4 ≡ text_of_lines (listing_lines source u labels)
+listing_whole source t1 t2 t3 t4 u image slots labels numbers objects is accepted own kept named e1 e2 e3 made e4 =
     let found = byte_at image in
     let ss = slots_of (based u) in
     let a = source_lines (rows_of_unit u) source in
@@ -56,9 +60,14 @@ listing_whole source t1 t2 t3 u image slots labels numbers is accepted own kept 
     let lines : walked found 1 (lines_of source) slots ≡ a =
     ap (walked found 1 (lines_of source)) kept ∙ walked_lines found _ source ss (unit_climbs source u is)
     ∙ ap (λ rows. source_lines rows source) (sym (unit_kept u image accepted own)) in
+    let before : t3 ≡ text_of_lines ((a ++ b) ++ c) =
     e3 ∙ ap (λ ns. t2 ++ text_of_lines (entry_lines (codes "numbers") ns)) named
     ∙ ap (λ t. t ++ text_of_lines c) (e2 ∙ ap (λ t. t ++ text_of_lines b) (e1 ∙ ap text_of_lines lines) ∙ sym (text_append a b))
-    ∙ sym (text_append (a ++ b) c)
+    ∙ sym (text_append (a ++ b) c) in
+    let sums : sum_line objects image.start ≡ sum_line (objects_of u) (unit_start u) = ap (λ os. sum_line os image.start) made ∙ ap (sum_line (objects_of u)) own.start in
+    e4 ∙ ap (λ s. t3 ++ (line_end ++ (s ++ line_end))) sums ∙ ap (λ t. t ++ (line_end ++ (sum_line (objects_of u) (unit_start u) ++ line_end))) before
+    ∙ ap (λ t. text_of_lines ((a ++ b) ++ c) ++ (line_end ++ t)) (sym (append-nil (sum_line (objects_of u) (unit_start u) ++ line_end)))
+    ∙ sym (text_append ((a ++ b) ++ c) (sum_lines u))
 
 -- a text that refuses a source has bytes
 pub refusal_some : (source : List ℕ) (r : Refusal) → 0 < length (refused_text source r)

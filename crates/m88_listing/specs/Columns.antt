@@ -1,5 +1,5 @@
--- The lines of a listing as text. Four columns with two blanks between each two: the number of the line, an address,
--- bytes or their count, and the line of the source as it stands.
+-- The lines of a listing as text. Three columns with two blanks between each two, the number of the line, an address and
+-- bytes or their count, and then the line of the source as it stands, from a multiple of eight on: its tabs stay straight.
 use Rattle.std.specs.Prelude.{ℕ, ◌-◌, List, [], ◌∷◌, ◌++◌, length, replicate, decimal}
 
 -- the byte between columns and words
@@ -25,7 +25,7 @@ most_shown = 8
 -- the columns before the line of the source: seven for its number, eight for an address, sixteen for bytes
 abbrev pub columns : ℕ → List ℕ → List ℕ → List ℕ
 columns number address bytes =
-    at_right 7 (decimal number) ++ blanks 2 ++ address ++ blanks 2 ++ at_left 16 bytes ++ blanks 2
+    at_right 7 (decimal number) ++ blanks 2 ++ address ++ blanks 2 ++ at_left 16 bytes ++ blanks 5
 
 -- a column without an address
 abbrev pub no_address : List ℕ
@@ -33,7 +33,7 @@ no_address = blanks 8
 
 -- the width of these columns, for a number of at most seven digits
 abbrev pub before_source : ℕ
-before_source = 37
+before_source = 40
 
 -- a line of the source behind its number, without address and bytes; of an empty line there is the number alone
 abbrev pub bare_line : ℕ → List ℕ → List ℕ

@@ -1,6 +1,7 @@
 -- The symbols of a unit as they are listed: the labels in order of address, and apart from them the names of `.set`.
-use Rattle.std.specs.Prelude.{◌≡◌, ℕ, ◌==◌, Bool, if◌then◌else◌, List, [], ◌++◌, codes, decimal, filter, flat_map, is_none, is_some, map}
+use Rattle.std.specs.Prelude.{◌≡◌, ℕ, ◌==◌, Bool, if◌then◌else◌, List, [], ◌++◌, codes, decimal, filter, flat_map, is_none, is_some, map, Option}
 use Rattle.std.specs.List.Sorted.{IsNonDecreasingBy}
+use Rattle.std.specs.Option.{option_map_or}
 use Rattle.m88_base.specs.Hex.{hex8}
 use Rattle.m88_parse.specs.declared.unit.Unit.{Unit as Source}
 use Rattle.m88_link.specs.Symbols.{value_in}
@@ -11,11 +12,12 @@ use Rattle.m88_parse.specs.declared.unit.Module.{Module}
 use Rattle.m88_asm.specs.Units.{base_in, based}
 use Rattle.m88_listing.specs.declared.entries.Entry.{Entry}
 
--- a symbol of a module that stands somewhere: the value that linking gives it, its name, the name of its module, the
--- line of its definition, and whether other modules see it
+-- a symbol of a module that stands somewhere: the value that linking gives it, its section, its name, the name of its
+-- module, the line of its definition, and whether other modules see it
 abbrev pub entry_of : Placement Module → Symbol → Entry
 entry_of b s = record {
   value = value_in (base_in b) s;
+  section = s.section;
   name = s.name;
   owner = b.part.name;
   line = s.line;
@@ -47,7 +49,16 @@ pub record AreInOrder (entries ordered : List Entry) : Type 0 where
 abbrev pub global_mark : Bool → List ℕ
 global_mark seen = if seen then codes " global" else []
 
--- the line of a symbol: value, name, module and line, parted by one blank, and the mark
+-- the word for a section by its number: section 0 is text, section 1 is data, and each other one stands at an address
+abbrev pub section_word : ℕ → List ℕ
+section_word k = if k == 0 then codes "text" else (if k == 1 then codes "data" else codes "at")
+
+-- the word for a symbol's section behind its value, where it has one
+abbrev pub section_mark : Option ℕ → List ℕ
+section_mark section = option_map_or (λ k. codes " " ++ section_word k) section []
+
+-- the line of a symbol: value, section, name, module and line, parted by one blank, and the mark
 abbrev pub entry_line : Entry → List ℕ
 entry_line e =
-    hex8 e.value ++ codes " " ++ e.name ++ codes " " ++ e.owner ++ codes " " ++ decimal e.line ++ global_mark e.global
+    hex8 e.value ++ section_mark e.section ++ codes " " ++ e.name ++ codes " " ++ e.owner ++ codes " " ++ decimal e.line
+    ++ global_mark e.global

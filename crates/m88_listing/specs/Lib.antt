@@ -2,6 +2,7 @@
 pub mod Columns
 pub mod Rows
 pub mod Entries
+pub mod Sums
 pub mod Listing
 pub mod Refused
 pub mod Answer

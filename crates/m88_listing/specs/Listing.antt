@@ -1,4 +1,4 @@
--- The listing of a source that is accepted: its lines with what they put where, then its labels, then its numbers.
+-- The listing of a source that is accepted: its lines with what they put where, then its labels, its numbers, and sums.
 use Rattle.std.specs.Prelude.{◌≡◌, ℕ, List, [], ◌∷◌, ◌++◌, codes, map}
 use Rattle.m88_base.specs.Lines.{text_of_lines}
 use Rattle.m88_parse.specs.declared.unit.Unit.{Unit as Source}
@@ -6,6 +6,7 @@ use Rattle.m88_asm.specs.Sources.{IsProgramSource}
 use Rattle.m88_listing.specs.declared.entries.Entry.{Entry}
 use Rattle.m88_listing.specs.Entries.{AreInOrder, entry_line, labels_of, numbers_of}
 use Rattle.m88_listing.specs.Rows.{rows_of_unit, source_lines}
+use Rattle.m88_listing.specs.Sums.{sum_lines}
 
 -- an empty line, a line with a title, and the lines of entries
 abbrev pub entry_lines : List ℕ → List Entry → List (List ℕ)
@@ -17,6 +18,7 @@ listing_lines source u labels =
     source_lines (rows_of_unit u) source
     ++ entry_lines (codes "labels") labels
     ++ entry_lines (codes "numbers") (numbers_of u)
+    ++ sum_lines u
 
 -- the text lists a source that is accepted
 pub record ListsAccepted (source text : List ℕ) : Type 0 where

@@ -13,7 +13,7 @@ use std::marker::Model;
 pub(crate) struct Column {
     number: u64,
     alone: [u8; 8],
-    head: [u8; 37],
+    head: [u8; 40],
 }
 
 impl Model for Column {
@@ -91,11 +91,11 @@ fn alone(number: u64) -> [u8; 8]
 }
 
 /// The columns before a line that isn't empty: the number at the right of its column, and blanks.
-fn head(number: u64) -> [u8; 37]
+fn head(number: u64) -> [u8; 40]
     requires { number < 10 ^ 7 }
     ensures { result ≡ columns number no_address [] }
 {
-    let mut head = [b' '; 37];
+    let mut head = [b' '; 40];
     write_digits(number, &mut head, 7);
     head
 }

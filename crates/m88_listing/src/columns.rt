@@ -59,11 +59,11 @@ fn push_place(text: &mut Vec<u8>, number: u64, at: u32) -> Result<(), AllocError
 fn push_line(text: &mut Vec<u8>, begin: usize, line: &[u8]) -> Result<(), AllocError>
     requires { begin ≤ length text.old.items }
     ensures { OnOk result (text.new.items ≡ text.old.items
-        ++ (blanks (16 - (length text.old.items - begin)) ++ blanks 2 ++ line.now ++ line_end)) }
+        ++ (blanks (16 - (length text.old.items - begin)) ++ blanks 5 ++ line.now ++ line_end)) }
 {
     let width = text.len() - begin;
     push_blanks(text, 16usize.saturating_sub(width))?;
-    text.extend_from_slice(b"  ")?;
+    text.extend_from_slice(b"     ")?;
     text.extend_from_slice(line)?;
     text.push(b'\n')?;
     Ok(())
@@ -102,6 +102,23 @@ pub(crate) fn push_shown(
     push_place(text, number, at)?;
     let begin = text.len();
     push_digits(text, bytes)?;
+    push_line(text, begin, line)?;
+    Ok(())
+}
+
+/// Appends a line of the source with the value that it gives a name.
+pub(crate) fn push_value(
+    text: &mut Vec<u8>,
+    number: u64,
+    value: u32,
+    line: &[u8],
+) -> Result<(), AllocError>
+    ensures { OnOk result (text.new.items ≡ text.old.items
+        ++ (columns number (hex8 value) (codes "=") ++ line.now ++ line_end)) }
+{
+    push_place(text, number, value)?;
+    let begin = text.len();
+    text.push(b'=')?;
     push_line(text, begin, line)?;
     Ok(())
 }

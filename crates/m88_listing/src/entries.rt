@@ -2,7 +2,7 @@
 ghost use Rattle.std.specs.Prelude.{◌≡◌, ◌++◌, IfOk, OnOk, is_none, is_some, map};
 ghost use Rattle.std.specs.List.{flat_map};
 ghost use Rattle.m88_base.specs.Lines.{line_end, text_of_lines};
-ghost use Rattle.m88_listing.specs.Entries.{AreInOrder, entries_in, entry_line, entry_of, global_mark};
+ghost use Rattle.m88_listing.specs.Entries.{AreInOrder, entries_in, entry_line, entry_of, global_mark, section_mark};
 ghost use Rattle.m88_listing.specs.Listing.{entry_lines};
 
 use crate::standing::Standing;
@@ -10,11 +10,12 @@ use m88_base::{Name, push_decimal, push_hex8};
 use m88_link::Symbol;
 use std::alloc::{AllocError, Global};
 
-/// A symbol as it is listed: its value, its name, the name of its module, the line of its definition, and whether other
-/// modules see it.
+/// A symbol as it is listed: its value, the number of its section, its name, the name of its module, the line of its
+/// definition, and whether other modules see it.
 #[derive(Clone, Copy, PartialEq, Eq, Debug)]
 pub struct Entry {
     pub value: u32,
+    pub section: Option<u32>,
     pub name: Name,
     pub owner: Name,
     pub line: u32,
@@ -27,6 +28,7 @@ fn entry_of(standing: &Standing<'_>, symbol: &Symbol) -> Entry
 {
     Entry {
         value: standing.value(symbol),
+        section: symbol.section,
         name: symbol.name,
         owner: standing.name(),
         line: symbol.line,
@@ -85,6 +87,18 @@ pub(crate) fn numbers(alloc: Global, standings: &[Standing<'_>]) -> Result<Vec<E
     Ok(entries)
 }
 
+/// Appends the word for the section of a symbol.
+fn push_section(text: &mut Vec<u8>, section: Option<u32>) -> Result<(), AllocError>
+    ensures { OnOk result (text.new.items ≡ text.old.items ++ section_mark section) }
+{
+    match section {
+        Some(0) => text.extend_from_slice(b" text"),
+        Some(1) => text.extend_from_slice(b" data"),
+        Some(_) => text.extend_from_slice(b" at"),
+        None => Ok(()),
+    }
+}
+
 /// Appends the mark of a symbol that other modules see.
 fn push_global(text: &mut Vec<u8>, global: bool) -> Result<(), AllocError>
     ensures { OnOk result (text.new.items ≡ text.old.items ++ global_mark global) }
@@ -101,6 +115,7 @@ fn push_entry(text: &mut Vec<u8>, entry: &Entry) -> Result<(), AllocError>
         (text.new.items ≡ text.old.items ++ (entry_line entry.now ++ line_end)) }
 {
     push_hex8(text, entry.value)?;
+    push_section(text, entry.section)?;
     text.push(b' ')?;
     text.extend_from_slice(entry.name.bytes())?;
     text.push(b' ')?;

@@ -2,12 +2,13 @@
 //! below its line.
 #![tactic(auto)]
 
-// What statements put where, and what symbols mean.
+// What statements put where, what symbols mean, and sums.
 mod cursor;
 mod entries;
 mod layout;
 mod slots;
 mod standing;
+mod sums;
 
 // The text.
 mod column;

@@ -15,6 +15,7 @@ use crate::layout::slots;
 use crate::refused::push_refusal;
 use crate::rows::push_source;
 use crate::standing::standings;
+use crate::sums::push_sums;
 use m88_asm::{AsmFault, AsmKind, assemble};
 use m88_base::{Image, NoMemory, Reply};
 use m88_link::{LinkFault, LinkKind, Object, link, stand};
@@ -113,6 +114,7 @@ fn listing(
     push_source(&mut text, source, slots.as_slice(), image)?;
     push_entries(&mut text, b"labels", labels.as_slice())?;
     push_entries(&mut text, b"numbers", numbers.as_slice())?;
+    push_sums(&mut text, objects, image.start())?;
     Ok(text)
 }
 

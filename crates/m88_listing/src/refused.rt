@@ -71,7 +71,7 @@ fn push_mark(text: &mut Vec<u8>, column: u32, line: &[u8]) -> Result<(), AllocEr
         (text.new.items ≡ text.old.items ++ (mark_line column line.now ++ line_end)) }
 {
     let (before, _) = line.split_at(line.len().min(column.saturating_sub(1) as usize));
-    text.extend_from_slice(b"                                     ")?;
+    text.extend_from_slice(b"                                        ")?;
     push_below(text, before)?;
     text.extend_from_slice(b"^\n")?;
     Ok(())

@@ -8,8 +8,8 @@ ghost use Rattle.m88_listing.specs.Rows.{further_from, row_lines};
 ghost use Rattle.m88_listing.specs.Inside.Slots.{GoesBehind, IsNextLine, IsSlot, kept_row, walked};
 
 use crate::column::Column;
-use crate::columns::{MOST_SHOWN, push_counted, push_further, push_shown};
-use crate::slots::Slot;
+use crate::columns::{MOST_SHOWN, push_counted, push_further, push_shown, push_value};
+use crate::slots::{Shown, Slot};
 use m88_base::{Image, first_line};
 use std::alloc::AllocError;
 
@@ -39,10 +39,32 @@ fn push_row(
     ensures { OnOk result (text.new.items ≡ text.old.items
         ++ text_of_lines (row_lines number line.now (kept_row (byte_at image.now) slot.now))) }
 {
-    if slot.counted {
-        push_counted(text, number, slot.at, slot.len, line)?;
-        return Ok(());
+    match slot.shown {
+        Shown::Zeros => {
+            push_counted(text, number, slot.at, slot.len, line)?;
+            Ok(())
+        }
+        Shown::Value => {
+            push_value(text, number, slot.at, line)?;
+            Ok(())
+        }
+        Shown::Bytes => push_bytes(text, number, line, slot, image),
     }
+}
+
+/// Appends the lines for a line of a source with what is kept of bytes, which are shown one by one.
+fn push_bytes(
+    text: &mut Vec<u8>,
+    number: u64,
+    line: &[u8],
+    slot: &Slot,
+    image: &Image,
+) -> Result<(), AllocError>
+    requires kept { IsSlot (byte_at image.now) slot.now }
+    requires bytes { slot.now.shown ≡ Shown.Bytes }
+    ensures { OnOk result (text.new.items ≡ text.old.items
+        ++ text_of_lines (row_lines number line.now (kept_row (byte_at image.now) slot.now))) }
+{
     let (bytes, _) = image.rest(slot.at).split_at(slot.len);
     let (shown, behind) = bytes.split_at(slot.len.min(MOST_SHOWN));
     push_shown(text, number, slot.at, shown, line)?;

@@ -1,7 +1,7 @@
 //! Where the modules of a unit stand.
-ghost use Rattle.std.specs.Prelude.{◌≡◌, IfOk};
+ghost use Rattle.std.specs.Prelude.{◌≡◌, IfOk, Some};
 ghost use Rattle.m88_link.specs.Bases.{section_size, stood};
-ghost use Rattle.m88_link.specs.Symbols.{value_in};
+ghost use Rattle.m88_link.specs.Symbols.{placed_value, value_in};
 ghost use Rattle.m88_asm.specs.Objects.{objects_of, symbols_in};
 ghost use Rattle.m88_asm.specs.Units.{base_in, based};
 
@@ -59,6 +59,14 @@ impl Standing<'_> {
         ensures { result ≡ base_in self.now index }
     {
         self.object.base(index)
+    }
+
+    /// The address of a place of a section, which is 0 behind the last address.
+    pub fn address(&self, index: usize, offset: usize) -> u32
+        ensures { result ≡ placed_value (base_in self.now) (Some index) offset }
+    {
+        self.base(index)
+            .wrapping_add((offset % 0x1_0000_0000) as u32)
     }
 
     /// The value of a symbol of the module.

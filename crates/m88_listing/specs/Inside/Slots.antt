@@ -1,19 +1,23 @@
 -- What is kept of a row while the image has its bytes, and the lines as they are written from the first on.
 use Rattle.std.specs.Prelude.{ℕ, ◌≡◌, ◌+◌, ◌<◌, ◌≤◌, ◌^◌, ◌==◌, if◌then◌else◌, List, [], ◌∷◌, ◌++◌, drop, flat_map, length, map, Option, IsSome, slice_index_or, unwrap_or}
 use Rattle.std.specs.List.{range_with_len}
+use Rattle.std.specs.Option.{option_map_or}
 use Rattle.m88_base.specs.Image.{most_bytes}
 use Rattle.m88_base.specs.Lines.{lines_of, text_of_lines}
 use Rattle.m88_parse.specs.WellFormed.{IsFormedBody}
 use Rattle.m88_parse.specs.declared.unit.Statement.{Statement}
 use Rattle.m88_asm.specs.Counters.{Counters, Located, after, at_begin, length_of, offset_of}
 use Rattle.m88_link.specs.Bases.{Placement}
+use Rattle.m88_link.specs.Symbols.{value_in}
+use Rattle.m88_link.specs.declared.object.Symbol.{Symbol}
 use Rattle.m88_link.specs.declared.object.Object.{Object}
 use Rattle.m88_parse.specs.declared.unit.Module.{Module}
-use Rattle.m88_asm.specs.Units.{address_in}
+use Rattle.m88_asm.specs.Units.{address_in, base_in}
 use Rattle.m88_listing.specs.Columns.{bare_line}
 use Rattle.m88_listing.specs.Inside.Parts.{Parts}
-use Rattle.m88_listing.specs.Rows.{Row, is_counted, row_lines}
+use Rattle.m88_listing.specs.Rows.{Row, named_by, row_lines, shown_as}
 use Rattle.m88_listing.specs.declared.cursor.Part.{Part}
+use Rattle.m88_listing.specs.declared.slots.Shown.TheVariants.{Bytes, Value}
 use Rattle.m88_listing.specs.declared.slots.Slot.{Slot}
 
 -- a section that isn't there
@@ -37,10 +41,9 @@ counters_in p = record {
 abbrev pub standing : Module → Placement Object → Placement Module
 standing part object = record { part = part; text_at = object.text_at; data_at = object.data_at }
 
--- what a slot keeps lies among the addresses, and a byte is found at each of its own
+-- what a slot keeps lies among the addresses where it has bytes, and a byte is found at each of its own
 pub record IsSlot (found : ℕ → Option ℕ) (s : Slot) : Type 0 where
-  pub some : 0 < s.len
-  pub within : s.at + s.len ≤ 2 ^ 32
+  pub within : 0 < s.len → s.at + s.len ≤ 2 ^ 32
   pub has : (k : ℕ) → k < s.len → IsSome (found (s.at + k))
 
 -- so many bytes from an address on, 0 where there is none
@@ -52,18 +55,27 @@ abbrev pub kept_row : (ℕ → Option ℕ) → Slot → Row
 kept_row found s = record {
   line = s.line;
   run = record { at = s.at; bytes = found_bytes found s.at s.len };
-  counted = s.counted;
+  shown = s.shown;
 }
 
--- what is kept of a statement, where it gives bytes
+-- what is kept of a symbol whose line gives no byte
+abbrev pub symbol_slot : Placement Module → Symbol → Slot
+symbol_slot b s = record {
+  line = s.line;
+  at = value_in (base_in b) s;
+  len = 0;
+  shown = option_map_or (λ _. Bytes) s.section Value;
+}
+
+-- what is kept of a statement: of its bytes, or where it gives none of what it names
 abbrev pub slots_at : Placement Module → Located → List Slot
 slots_at b r =
-    if length_of r == 0 then []
+    if length_of r == 0 then option_map_or (λ s. symbol_slot b s ∷ []) (named_by r) []
     else record {
       line = r.statement.line;
       at = address_in b r;
       len = length_of r;
-      counted = is_counted r.statement.body;
+      shown = shown_as r.statement.body;
     } ∷ []
 
 -- what is kept of statements, from counters on

@@ -13,9 +13,9 @@ pub returns : goal.returns
 returns c =
     let n = c.args.number in
     let w = c.write_digits in
-    let rest = blanks 30 in
+    let rest = blanks 33 in
     let start : w.result ≡ 7 - length (decimal n) = omega arith in
-    let blank : take w.result w.new.buf ≡ replicate w.result 32 = w.ensures.before ∙ take-replicate _ 37 32 (omega arith) in
+    let blank : take w.result w.new.buf ≡ replicate w.result 32 = w.ensures.before ∙ take-replicate _ 40 32 (omega arith) in
     let written : drop w.result w.new.buf ≡ decimal n ++ rest = w.ensures.written in
     sym (take-append-drop w.result w.new.buf)
     ∙ ap (λ t. t ++ drop w.result w.new.buf) (blank ∙ ap blanks start)

@@ -1,14 +1,13 @@
 -- What is kept is that of the statement.
 use Rattle.std.proofs.Common.{◌≡◌, ◌∙◌, ◌+◌, ◌≤◌, ◌<◌, ◌^◌, ◌++◌, List, ap, sym, subst, arith, rules, ℕ}
 use Rattle.std.proofs.Common.{Vec, Global}
-use Rattle.std.proofs.lemmas.List.{append-nil}
 use Rattle.m88_base.specs.Image.{most_bytes}
 use Rattle.m88_asm.specs.Counters.{Counters, Located, at_section, length_at, length_of, offset_here, place_here, with_length}
 use Rattle.m88_asm.specs.Units.{base_in}
 use Rattle.m88_listing.specs.Inside.Slots.{counters_in}
 use Rattle.m88_listing.specs.declared.slots.Slot.{Slot}
 use Rattle.m88_listing.proofs.Keeping.{slots_none, slots_some}
-use Rattle.m88_listing.proofs.layout.push_slot.Goals.{then-len-gt0+in_ok-push, else-len-gt0}
+use Rattle.m88_listing.proofs.layout.push_slot.Goals.{then-len-gt0+in_ok-push, else-len-gt0+in_ok-push_named}
 use Rattle.m88_listing.proofs.layout.push_slot.Goals as goal
 
 pub place-requires : goal.place-requires
@@ -55,10 +54,11 @@ returns c =
             let base = w.base.ensures ∙ ap (base_in b) here in
             ap (λ (v : Vec Slot Global). v.items) w.slots-is ∙ w.in_ok-push.ensures.items
             ∙ ap (λ (ss : List Slot). c.args.slots.now.items ++ ss)
-            (slots_some b r (w.base.result + w.offset.result) c.length_at-len.result w.is_counted.result w.if-len-gt0.true len
-            (omega (arith, base, offset)) w.is_counted.ensures)
-        | else-len-gt0 w ↦
-            ap (λ (v : Vec Slot Global). v.items) w.slots-is ∙ sym (append-nil c.args.slots.now.items)
-            ∙ ap (λ (ss : List Slot). c.args.slots.now.items ++ ss) (slots_none b r c.length_at-len.result (omega (arith, w.if-len-gt0.false)) len)
+            (slots_some b r (w.base.result + w.offset.result) c.length_at-len.result w.shown_as.result w.if-len-gt0.true len
+            (omega (arith, base, offset)) w.shown_as.ensures)
+        | else-len-gt0+in_ok-push_named w ↦
+            ap (λ (v : Vec Slot Global). v.items) w.slots-is ∙ w.in_ok-push_named.ensures
+            ∙ ap (λ (ss : List Slot). c.args.slots.now.items ++ ss)
+            (slots_none b r c.length_at-len.result c.named_by-named.result (omega (arith, w.if-len-gt0.false)) len c.named_by-named.ensures)
       ];
     }

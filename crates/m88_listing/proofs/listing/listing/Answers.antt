@@ -4,7 +4,7 @@ use Rattle.std.specs.List.{All}
 use Rattle.std.specs.Prelude.{is_none, is_some}
 use Rattle.std.proofs.lemmas.List.Elements.{All-from_recursion}
 use Rattle.m88_base.specs.Image.{byte_at, most_bytes}
-use Rattle.m88_base.specs.Lines.{lines_of, text_of_lines}
+use Rattle.m88_base.specs.Lines.{line_end, lines_of, text_of_lines}
 use Rattle.m88_parse.specs.declared.unit.Module.{Module}
 use Rattle.m88_link.specs.Bases.{Placement, section_size, stood}
 use Rattle.m88_link.specs.Sizes.{total_size}
@@ -14,6 +14,7 @@ use Rattle.m88_asm.specs.Units.{based}
 use Rattle.m88_asm.specs.Objects.{objects_of}
 use Rattle.m88_asm.proofs.Laws.{modules_sound}
 use Rattle.m88_listing.specs.Entries.{AreInOrder, entries_in, labels_of, numbers_of}
+use Rattle.m88_listing.specs.Sums.{sum_line}
 use Rattle.m88_listing.specs.Inside.Slots.{IsSlot, ModuleFits, slots_of, walked}
 use Rattle.m88_listing.specs.declared.entries.Entry.{Entry}
 use Rattle.m88_listing.specs.declared.slots.Slot.{Slot}
@@ -31,6 +32,11 @@ stand-requires-clause-sound c =
     let u = c.args.unit.now in
     subst (λ (os : List Object). All IsSound os) (sym c.requires.accepted.are_objects)
     (All-from_recursion IsSound (objects_of u) (modules_sound u.modules c.requires.accepted.accepted.assembled))
+
+pub push_sums-requires : goal.push_sums-requires
+push_sums-requires c =
+    subst (λ (os : List Object). total_size os ≤ most_bytes) (sym c.requires.accepted.are_objects)
+    (size_fits c.args.unit.now c.requires.accepted.accepted)
 
 pub standings-requires : goal.standings-requires
 standings-requires c =
@@ -72,9 +78,10 @@ returns c =
       labels = c.as_slice-6.result.now;
       in_order = ordered;
       is_text =
-          listing_whole source c.push_source.new.text.items c.push_entries.new.text.items c.push_entries-2.new.text.items u c.args.image.now
-          c.as_slice-5.result.now c.as_slice-6.result.now c.as_slice-7.result.now c.requires.accepted.is_unit c.requires.accepted.accepted c.requires.accepted.is_image kept named
+          listing_whole source c.push_source.new.text.items c.push_entries.new.text.items c.push_entries-2.new.text.items c.push_sums.new.text.items u c.args.image.now
+          c.as_slice-5.result.now c.as_slice-6.result.now c.as_slice-7.result.now c.args.objects.now c.requires.accepted.is_unit c.requires.accepted.accepted c.requires.accepted.is_image kept named
           (c.in_ok-push_source.ensures
           ∙ ap (λ (t : List ℕ). t ++ text_of_lines (walked found 1 (lines_of source) c.as_slice-5.result.now)) c.new-text.ensures.items)
-          c.in_ok-push_entries.ensures c.in_ok-push_entries-2.ensures;
+          c.in_ok-push_entries.ensures c.in_ok-push_entries-2.ensures c.requires.accepted.are_objects
+          (c.in_ok-push_sums.ensures ∙ ap (λ (n : ℕ). c.push_entries-2.new.text.items ++ (line_end ++ (sum_line c.args.objects.now n ++ line_end))) c.start.ensures);
     }

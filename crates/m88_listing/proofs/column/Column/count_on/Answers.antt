@@ -14,5 +14,5 @@ invariant_of-self c =
     let below : digit < 57 = omega (arith, c.if-self-lt57.true) in (
       small,
       counted c.self.inside.alone line_end n digit small last below c.self.invariant.1,
-      counted c.self.inside.head (blanks 30) n digit small last below (c.self.invariant.2 ∙ sym (head_is n)) ∙ head_is (n + 1),
+      counted c.self.inside.head (blanks 33) n digit small last below (c.self.invariant.2 ∙ sym (head_is n)) ∙ head_is (n + 1),
     )

@@ -1,5 +1,5 @@
 -- The columns, the line and its end.
-use Rattle.std.proofs.Common.{◌≡◌, ◌∙◌, ◌++◌, [], ℕ, ap, decimal, sym}
+use Rattle.std.proofs.Common.{◌∙◌, ◌++◌, [], ℕ, ap, decimal, sym}
 use Rattle.m88_base.specs.Lines.{line_end}
 use Rattle.m88_listing.specs.Columns.{at_right, columns, no_address}
 use Rattle.m88_listing.proofs.Lines.{bare_written, empty_written}
