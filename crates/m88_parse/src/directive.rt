@@ -54,12 +54,16 @@ fn text_of(directive: Directive) -> &'static str
 }
 
 /// The directive of a name, if there is one.
-#[tactic(auto, unfolding(crate::specs::Inside::Directives::all_directives))]
+#[tactic(auto, unfolding(crate::specs::Inside::Directives::all_directives, crate::specs::Inside::Directives::directive_text))]
 pub(crate) fn directive_of(name: &[u8]) -> Option<Directive>
     ensures { result ≡ directive_of name.now }
 {
-    DIRECTIVES
-        .iter()
-        .copied()
-        .find(|d| text_of(*d).as_bytes() == name)
+    match name {
+        // It stands on most lines, and is told without a call.
+        b".word" => Some(Directive::Word),
+        _ => DIRECTIVES
+            .iter()
+            .copied()
+            .find(|d| text_of(*d).as_bytes() == name),
+    }
 }

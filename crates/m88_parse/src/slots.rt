@@ -232,15 +232,18 @@ impl<'a> Parser<'a> {
     }
 
     /// A number of 32 bits, or a symbol with what is added to it.
-    #[tactic(auto, unfolding(crate::specs::Inside::Slots::value_at))]
+    #[tactic(auto, unfolding(crate::specs::Inside::Slots::value_at, crate::specs::Inside::Slots::signed_at, crate::specs::Inside::Slots::unsigned_at))]
     pub fn value(&mut self, kind: Kind) -> Result<Value, ParseFault>
         ensures value { Gives (λ x. (x, self.new)) result (value_at kind self.old) }
         ensures shorter { OnOk result (length self.new.rest < length self.old.rest) }
     {
-        if let Some(What::Name(_)) = self.first() {
-            Ok(Value::Symbol(self.fixup(kind)?))
-        } else {
-            Ok(Value::Number(self.whole(1 << 31, u32::MAX)?))
+        match self.first() {
+            Some(What::Name(_)) => Ok(Value::Symbol(self.fixup(kind)?)),
+            Some(What::Number(n)) => {
+                self.skip();
+                Ok(Value::Number(n))
+            }
+            _ => Ok(Value::Number(self.whole(1 << 31, u32::MAX)?)),
         }
     }
 
