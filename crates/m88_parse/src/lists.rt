@@ -1,9 +1,9 @@
 //! Texts, and lists of operands with commas between them.
-ghost use Rattle.std.specs.Prelude.{◌≡◌, ◌<◌, false, length, OnOk, MatchResult, if◌then◌else◌};
+ghost use Rattle.std.specs.Prelude.{◌≡◌, false, MatchResult, if◌then◌else◌};
 ghost use Rattle.m88_parse.specs.Fault.{Gives, out_of_memory};
 ghost use Rattle.m88_parse.specs.Language.Bytes.{comma_mark};
 ghost use Rattle.m88_parse.specs.Inside.Grammar.{list_at, word_item_at, a_half, a_byte, part_item_at};
-ghost use Rattle.m88_parse.specs.Inside.Slots.{text_at};
+ghost use Rattle.m88_parse.specs.Inside.Slots.{ReadsSlot, text_at};
 ghost use Rattle.m88_parse.specs.Inside.State.{is_next_mark, past};
 ghost use Rattle.m88_parse.specs.Inside.Tokens.{text_bytes};
 
@@ -48,16 +48,14 @@ impl<'a> Parser<'a> {
 
     /// An item of `.half`.
     fn half_word(&mut self) -> Result<u16, ParseFault>
-        ensures value { Gives (λ n. (n, self.new)) result (part_item_at a_half self.old) }
-        ensures shorter { OnOk result (length self.new.rest < length self.old.rest) }
+        ensures { ReadsSlot self.old self.new result (part_item_at a_half self.old) }
     {
         Ok((self.whole(0x8000, 0xFFFF)? % 0x10000) as u16)
     }
 
     /// An item of `.byte`.
     fn byte(&mut self) -> Result<u8, ParseFault>
-        ensures value { Gives (λ n. (n, self.new)) result (part_item_at a_byte self.old) }
-        ensures shorter { OnOk result (length self.new.rest < length self.old.rest) }
+        ensures { ReadsSlot self.old self.new result (part_item_at a_byte self.old) }
     {
         Ok((self.whole(0x80, 0xFF)? % 0x100) as u8)
     }

@@ -1,6 +1,6 @@
 //! Names with a meaning of their own: registers, bits, conditions, halves, symbols.
-ghost use Rattle.std.specs.Prelude.{◌≡◌, ◌<◌, IfSome, SomeIff, true};
-ghost use Rattle.m88_parse.specs.Inside.Names.{register_of, control_of, float_control_of, control_in, is_here, is_module, is_valid_name, is_symbol};
+ghost use Rattle.std.specs.Prelude.{◌≡◌, SomeIff, true};
+ghost use Rattle.m88_parse.specs.Inside.Names.{GivesBelow, register_of, control_of, float_control_of, control_in, is_here, is_module, is_valid_name, is_symbol};
 ghost use Rattle.m88_parse.specs.Language.Words.{bit_named, condition_named, half_named};
 
 use m88_base::{Kind, Name, decimal_in};
@@ -8,8 +8,7 @@ use m88_base::{Kind, Name, decimal_in};
 /// The number of a general register.
 #[tactic(auto, unfolding(crate::specs::Inside::Names::register_of))]
 pub(crate) fn register_of(name: &[u8]) -> Option<u32>
-    ensures value { result ≡ register_of name.now }
-    ensures bound { IfSome result (λ n. n < 32) }
+    ensures { GivesBelow 32 result (register_of name.now) }
 {
     match name {
         [b'r', digits @ ..] => decimal_in(digits, 31),
@@ -20,8 +19,7 @@ pub(crate) fn register_of(name: &[u8]) -> Option<u32>
 /// The number of a control register of the integer unit, crN.
 #[tactic(auto, unfolding(crate::specs::Inside::Names::control_of))]
 fn control_of(name: &[u8]) -> Option<u32>
-    ensures value { result ≡ control_of name.now }
-    ensures bound { IfSome result (λ n. n < 64) }
+    ensures { GivesBelow 64 result (control_of name.now) }
 {
     match name {
         [b'c', b'r', digits @ ..] => decimal_in(digits, 63),
@@ -32,8 +30,7 @@ fn control_of(name: &[u8]) -> Option<u32>
 /// The number of a control register of the floating-point unit, fcrN.
 #[tactic(auto, unfolding(crate::specs::Inside::Names::float_control_of))]
 fn float_control_of(name: &[u8]) -> Option<u32>
-    ensures value { result ≡ float_control_of name.now }
-    ensures bound { IfSome result (λ n. n < 64) }
+    ensures { GivesBelow 64 result (float_control_of name.now) }
 {
     match name {
         [b'f', rest @ ..] => control_of(rest),
@@ -43,8 +40,7 @@ fn float_control_of(name: &[u8]) -> Option<u32>
 
 /// The number of a control register, of the floating-point unit where `float`.
 pub(crate) fn control_in(float: bool, name: &[u8]) -> Option<u32>
-    ensures value { result ≡ control_in float name.now }
-    ensures bound { IfSome result (λ n. n < 64) }
+    ensures { GivesBelow 64 result (control_in float name.now) }
 {
     if float {
         float_control_of(name)
@@ -56,8 +52,7 @@ pub(crate) fn control_in(float: bool, name: &[u8]) -> Option<u32>
 /// The bit of a comparison, by its name.
 #[tactic(auto, unfolding(crate::specs::Language::Words::bit_named))]
 pub(crate) fn bit_named(name: &[u8]) -> Option<u32>
-    ensures value { result ≡ bit_named name.now }
-    ensures bound { IfSome result (λ n. n < 32) }
+    ensures { GivesBelow 32 result (bit_named name.now) }
 {
     match name {
         b"eq" => Some(2),
@@ -77,8 +72,7 @@ pub(crate) fn bit_named(name: &[u8]) -> Option<u32>
 /// The mask of a condition, by its name.
 #[tactic(auto, unfolding(crate::specs::Language::Words::condition_named))]
 pub(crate) fn condition_named(name: &[u8]) -> Option<u32>
-    ensures value { result ≡ condition_named name.now }
-    ensures bound { IfSome result (λ n. n < 16) }
+    ensures { GivesBelow 16 result (condition_named name.now) }
 {
     match name {
         b"eq0" => Some(2),

@@ -1,7 +1,7 @@
 //! Operands of several tokens, each from the place where it is wanted.
-ghost use Rattle.std.specs.Prelude.{◌≡◌, ◌≤◌, ◌<◌, ◌^◌, IfOk};
+ghost use Rattle.std.specs.Prelude.{◌≡◌, ◌≤◌, IfOk};
 ghost use Rattle.m88_parse.specs.Fault.{Gives};
-ghost use Rattle.m88_parse.specs.Inside.Operands.{AreWordsWithin, half, half_immediate, half_on, half_at, immediate_at, register_in, operand_at, bound_at, scaled_at, index_at, user_index_at, width_at, literal_at, field_at, distance_at, words_at, is_here_on, target_at};
+ghost use Rattle.m88_parse.specs.Inside.Operands.{AreWordsWithin, IsReach, half, half_immediate, half_on, half_at, immediate_at, register_in, operand_at, bound_at, scaled_at, index_at, user_index_at, width_at, literal_at, field_at, distance_at, words_at, is_here_on, target_at};
 ghost use Rattle.m88_parse.specs.Inside.State.{first, second};
 
 use crate::fault::{ParseFault, ParseKind};
@@ -218,8 +218,7 @@ impl<'a> Parser<'a> {
     /// Words forward or back behind the `.` of a target, in a sign and the bits below `limit`.
     #[tactic(auto, unfolding(crate::specs::Inside::Operands::words_at))]
     fn words(&mut self, limit: u32) -> Result<i32, ParseFault>
-        requires least { 0 < limit }
-        requires most { limit ≤ 2 ^ 25 }
+        requires { IsReach limit }
         ensures value { Gives (λ n. (n, self.new)) result (words_at limit self.old) }
         ensures fits { IfOk result (AreWordsWithin limit) }
     {
@@ -247,8 +246,7 @@ impl<'a> Parser<'a> {
     /// Where a branch goes; a distance fits a sign and the bits below `limit`.
     #[tactic(auto, unfolding(crate::specs::Inside::Operands::target_at))]
     pub fn target(&mut self, kind: Kind, limit: u32) -> Result<Target, ParseFault>
-        requires least { 0 < limit }
-        requires most { limit ≤ 2 ^ 25 }
+        requires { IsReach limit }
         ensures value { Gives (λ x. (x, self.new)) result (target_at kind limit self.old) }
         ensures fits { IfOk result (λ x. AreWordsWithin limit x.words) }
     {

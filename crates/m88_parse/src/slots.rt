@@ -1,7 +1,7 @@
 //! Operands of one or a few tokens, each from the place where it is wanted.
-ghost use Rattle.std.specs.Prelude.{◌≡◌, ◌≤◌, ◌<◌, ◌==◌, ◌||◌, length, IfOk, OnOk};
+ghost use Rattle.std.specs.Prelude.{◌≡◌, ◌≤◌, ◌==◌, ◌||◌, length, IfOk, OnOk};
 ghost use Rattle.m88_parse.specs.Fault.{Gives};
-ghost use Rattle.m88_parse.specs.Inside.Slots.{unsigned_at, negated, signed_at, register_at, register_comma_at, two_registers_at, two_registers_comma_at, control_at, bit_at, mask_at, symbol_at, addend_at, fixup_at, value_at, any_name_at, alignment_at};
+ghost use Rattle.m88_parse.specs.Inside.Slots.{ReadsSlot, unsigned_at, negated, signed_at, register_at, register_comma_at, two_registers_at, two_registers_comma_at, control_at, bit_at, mask_at, symbol_at, addend_at, fixup_at, value_at, any_name_at, alignment_at};
 
 use crate::fault::{ParseFault, ParseKind};
 use crate::names::{bit_named, condition_named, control_in, name_of, register_of, symbol_of};
@@ -28,9 +28,8 @@ impl<'a> Parser<'a> {
     /// A number, 0 to `most`.
     #[tactic(auto, unfolding(crate::specs::Inside::Slots::unsigned_at))]
     pub fn number(&mut self, most: u32) -> Result<u32, ParseFault>
-        ensures value { Gives (λ n. (n, self.new)) result (unsigned_at most self.old) }
+        ensures read { ReadsSlot self.old self.new result (unsigned_at most self.old) }
         ensures bound { IfOk result (λ n. n ≤ most) }
-        ensures shorter { OnOk result (length self.new.rest < length self.old.rest) }
     {
         match self.first() {
             Some(What::Number(n)) if n <= most => {
@@ -45,8 +44,7 @@ impl<'a> Parser<'a> {
     /// A number from -`low` to `most`, modulo 2^32.
     #[tactic(auto, unfolding(crate::specs::Inside::Slots::signed_at, crate::specs::Inside::Slots::unsigned_at))]
     pub fn whole(&mut self, low: u32, most: u32) -> Result<u32, ParseFault>
-        ensures value { Gives (λ n. (n, self.new)) result (signed_at low most self.old) }
-        ensures shorter { OnOk result (length self.new.rest < length self.old.rest) }
+        ensures { ReadsSlot self.old self.new result (signed_at low most self.old) }
     {
         if !self.is_next(b'-') {
             return self.number(most);
@@ -164,8 +162,7 @@ impl<'a> Parser<'a> {
     /// The name of a symbol with its column.
     #[tactic(auto, unfolding(crate::specs::Inside::Slots::symbol_at))]
     pub fn symbol(&mut self) -> Result<(Name, u32), ParseFault>
-        ensures value { Gives (λ x. (x, self.new)) result (symbol_at self.old) }
-        ensures shorter { OnOk result (length self.new.rest < length self.old.rest) }
+        ensures { ReadsSlot self.old self.new result (symbol_at self.old) }
     {
         let Some(What::Name(text)) = self.first() else {
             return Err(self.fault(ParseKind::Syntax));
@@ -218,8 +215,7 @@ impl<'a> Parser<'a> {
     /// A symbol with what is added to it.
     #[tactic(auto, unfolding(crate::specs::Inside::Slots::fixup_at))]
     pub fn fixup(&mut self, kind: Kind) -> Result<Fixup, ParseFault>
-        ensures value { Gives (λ x. (x, self.new)) result (fixup_at kind self.old) }
-        ensures shorter { OnOk result (length self.new.rest < length self.old.rest) }
+        ensures { ReadsSlot self.old self.new result (fixup_at kind self.old) }
     {
         let (symbol, col) = self.symbol()?;
         let addend = self.addend()?;
@@ -234,8 +230,7 @@ impl<'a> Parser<'a> {
     /// A number of 32 bits, or a symbol with what is added to it.
     #[tactic(auto, unfolding(crate::specs::Inside::Slots::value_at, crate::specs::Inside::Slots::signed_at, crate::specs::Inside::Slots::unsigned_at))]
     pub fn value(&mut self, kind: Kind) -> Result<Value, ParseFault>
-        ensures value { Gives (λ x. (x, self.new)) result (value_at kind self.old) }
-        ensures shorter { OnOk result (length self.new.rest < length self.old.rest) }
+        ensures { ReadsSlot self.old self.new result (value_at kind self.old) }
     {
         match self.first() {
             Some(What::Name(_)) => Ok(Value::Symbol(self.fixup(kind)?)),

@@ -1,9 +1,9 @@
 //! Directives, operations, labels and heads of modules.
-ghost use Rattle.std.specs.Prelude.{◌≡◌, ◌⊎◌, Err, IfErr, OnOk};
+ghost use Rattle.std.specs.Prelude.{◌≡◌};
 ghost use Rattle.m88_isa.specs.Inside.Letters.{mnemonic_of};
 ghost use Rattle.m88_parse.specs.declared.directive.Directive.TheVariants.{Set};
-ghost use Rattle.m88_parse.specs.Fault.{Gives, out_of_memory};
-ghost use Rattle.m88_parse.specs.Inside.Drafts.{GoesOn};
+ghost use Rattle.m88_parse.specs.Fault.{Gives};
+ghost use Rattle.m88_parse.specs.Inside.Drafts.{PutsRow};
 ghost use Rattle.m88_parse.specs.Inside.Grammar.{read, directive_form};
 ghost use Rattle.m88_parse.specs.Inside.Source.{operation_at, labelled_at, head_at, is_label_on, is_head_on, row_at};
 ghost use Rattle.m88_parse.specs.Inside.State.{first, second};
@@ -122,9 +122,7 @@ impl<'a> Parser<'a> {
     /// A label, and the operation behind it if there is one, put into a draft.
     #[tactic(auto, unfolding(crate::specs::Inside::Source::labelled_at))]
     fn labelled(&mut self, alloc: Global, draft: &mut Draft) -> Result<(), ParseFault>
-        ensures said { OnOk result (GoesOn draft.new draft.old (labelled_at self.old)) }
-        ensures fault { IfErr result (λ e. (e ≡ out_of_memory)
-            ⊎ (labelled_at self.old ≡ Err e)) }
+        ensures { PutsRow draft.old draft.new result (labelled_at self.old) }
     {
         let label = self.symbol()?;
         self.skip();
@@ -151,9 +149,7 @@ impl<'a> Parser<'a> {
     /// The head of a module, from its `.module` on, put into a draft.
     #[tactic(auto, unfolding(crate::specs::Inside::Source::head_at))]
     fn head(&mut self, alloc: Global, draft: &mut Draft) -> Result<(), ParseFault>
-        ensures said { OnOk result (GoesOn draft.new draft.old (head_at self.old)) }
-        ensures fault { IfErr result (λ e. (e ≡ out_of_memory)
-            ⊎ (head_at self.old ≡ Err e)) }
+        ensures { PutsRow draft.old draft.new result (head_at self.old) }
     {
         let line = self.line();
         self.skip();
@@ -185,9 +181,7 @@ impl<'a> Parser<'a> {
     /// What a line with a token says, put into a draft.
     #[tactic(auto, unfolding(crate::specs::Inside::Source::row_at))]
     pub fn row(&mut self, alloc: Global, draft: &mut Draft) -> Result<(), ParseFault>
-        ensures said { OnOk result (GoesOn draft.new draft.old (row_at self.old)) }
-        ensures fault { IfErr result (λ e. (e ≡ out_of_memory)
-            ⊎ (row_at self.old ≡ Err e)) }
+        ensures { PutsRow draft.old draft.new result (row_at self.old) }
     {
         if self.is_label() {
             return self.labelled(alloc, draft);

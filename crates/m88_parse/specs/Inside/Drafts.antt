@@ -1,8 +1,9 @@
 -- The modules of a source as they grow row by row: what a part of the source has come to, and how the rest goes on from
 -- there.
-use Rattle.std.specs.Prelude.{◌≡◌, ℕ, ◌+◌, List, [], ◌∷◌, ◌++◌, Option, Some, None, Result, Ok, Err}
+use Rattle.std.specs.Prelude.{◌≡◌, ◌⊎◌, ℕ, ◌+◌, List, [], ◌∷◌, ◌++◌, Option, Some, None, Result, Ok, Err, IfErr, OnOk}
 use Rattle.std.specs.Option.{unwrap_or}
 use Rattle.m88_parse.specs.declared.fault.ParseFault.{ParseFault}
+use Rattle.m88_parse.specs.Fault.{out_of_memory}
 use Rattle.m88_parse.specs.declared.unit.Statement.{Statement}
 use Rattle.m88_parse.specs.declared.unit.Module.{Module}
 use Rattle.m88_parse.specs.declared.unit.Unit.{Unit as Source}
@@ -47,6 +48,12 @@ Follows after before r = (rows : List SourceRow) → modules_after after rows �
 abbrev pub GoesOn : Drafted → Drafted → Result SourceRow ParseFault → Type 0
 GoesOn after before (Ok r) = Follows after before (Some r)
 GoesOn after before (Err e) = ⊥
+
+-- a call put what a line says behind the rows of a draft, or answered its fault, or memory ran out
+pub record PutsRow {A : Type 0} (before after : Drafted) (result : Result A ParseFault) (row : Result SourceRow ParseFault)
+    : Type 0 where
+  pub said : OnOk result (GoesOn after before row)
+  pub fault : IfErr result (λ e. (e ≡ out_of_memory) ⊎ (row ≡ Err e))
 
 -- a line goes on with the lines behind it
 abbrev pub LeadsOn : ℕ → List ℕ → Drafted → Drafted → Type 0

@@ -1,10 +1,15 @@
 -- Names with a meaning of their own as they are read: registers and control registers, in lower case and with no
 -- needless 0 in their numbers, and symbols.
-use Rattle.std.specs.Prelude.{ℕ, Bool, true, false, List, [], ◌∷◌, ◌==◌, ◌&&◌, ◌||◌, not, nat_lt, length, if◌then◌else◌, Option, None, is_some, codes}
+use Rattle.std.specs.Prelude.{ℕ, ◌≡◌, ◌<◌, Bool, true, false, List, [], ◌∷◌, ◌==◌, ◌&&◌, ◌||◌, not, nat_lt, length, if◌then◌else◌, Option, None, IfSome, is_some, codes}
 use Rattle.std.specs.List.{list_all}
 use Rattle.std.specs.Str.{bytes_eq}
 use Rattle.m88_base.specs.Numerals.{decimal_in}
 use Rattle.m88_base.specs.Name.{begins_name, continues_name}
+
+-- a call gave the number that is said, and that is below a limit where there is one
+pub record GivesBelow (limit : ℕ) (result said : Option ℕ) : Type 0 where
+  pub value : result ≡ said
+  pub bound : IfSome result (λ n. n < limit)
 
 -- rN, N to 31
 unfoldable pub register_of : List ℕ → Option ℕ

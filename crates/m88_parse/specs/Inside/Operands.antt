@@ -1,5 +1,5 @@
 -- The operands of instructions, by what stands where one is wanted.
-use Rattle.std.specs.Prelude.{ℕ, ◌-◌, ◌<◌, ◌/◌, ◌%◌, ℤ, pos, negsuc, neg_ℤ, Bool, true, false, ◌==◌, ◌&&◌, nat_le, if◌then◌else◌, Option, Some, None, Ok}
+use Rattle.std.specs.Prelude.{ℕ, ◌-◌, ◌<◌, ◌≤◌, ◌/◌, ◌%◌, ◌^◌, ℤ, pos, negsuc, neg_ℤ, Bool, true, false, ◌==◌, ◌&&◌, nat_le, if◌then◌else◌, Option, Some, None, Ok}
 use Rattle.std.specs.Option.{option_map}
 use Rattle.m88_base.specs.Reg.{reg_of}
 use Rattle.m88_base.specs.declared.reg.Reg.{Reg}
@@ -148,6 +148,11 @@ words_at limit s =
     if is_next_mark plus_mark s then (distance_at (limit - 1) (past s) >>= λ n. Ok (pos n.0, n.1))
     else (if is_next_mark minus_mark s then (distance_at limit (past s) >>= λ n. Ok (neg_ℤ (pos n.0), n.1))
     else Ok (pos 0, s))
+
+-- a field takes words forward below the limit, and back down to it
+pub record IsReach (limit : ℕ) : Type 0 where
+  pub least : 0 < limit
+  pub most : limit ≤ 2 ^ 25
 
 -- words that fit a sign and the bits below the limit
 abbrev pub AreWordsWithin : ℕ → ℤ → Type 0

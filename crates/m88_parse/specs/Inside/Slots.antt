@@ -1,6 +1,6 @@
 -- Operands of one or a few tokens, by what stands where one is wanted. A slot gives its value and what is left behind
 -- it, or the fault of the first token that can't stand there.
-use Rattle.std.specs.Prelude.{ℕ, ◌-◌, ◌^◌, Bool, List, ◌==◌, ◌||◌, nat_le, if◌then◌else◌, Option, Some, None, Result, Ok}
+use Rattle.std.specs.Prelude.{ℕ, ◌-◌, ◌<◌, ◌^◌, Bool, List, ◌==◌, ◌||◌, length, nat_le, if◌then◌else◌, Option, Some, None, Result, Ok, OnOk}
 use Rattle.std.specs.Option.{option_map}
 use Rattle.m88_base.specs.Reg.{reg_of}
 use Rattle.m88_base.specs.declared.reg.Reg.{Reg}
@@ -10,6 +10,7 @@ use Rattle.m88_parse.specs.declared.fault.ParseFault.{ParseFault}
 use Rattle.m88_parse.specs.declared.fault.ParseKind.TheVariants.{Syntax, NoSuchName, OutOfRange}
 use Rattle.m88_parse.specs.declared.unit.Value.{Value}
 use Rattle.m88_parse.specs.declared.unit.Value.TheVariants as value
+use Rattle.m88_parse.specs.Fault.{Gives}
 use Rattle.m88_parse.specs.Inside.Names.{register_of, control_in, is_valid_name, is_symbol}
 use Rattle.m88_parse.specs.Language.Bytes.{comma_mark, plus_mark, minus_mark}
 use Rattle.m88_parse.specs.Language.Operands.{minus}
@@ -20,6 +21,11 @@ use Rattle.m88_parse.specs.Inside.State.{ReaderState, first, place, past, troubl
 -- a value and what is left behind it, or a fault
 abbrev pub Read : Type 0 → Type 0
 Read A = Result (A × ReaderState) ParseFault
+
+-- a call read a slot: what it gives and what is left behind it are what is said, and at least a token was taken
+pub record ReadsSlot {A : Type 0} (before after : ReaderState) (result : Result A ParseFault) (said : Read A) : Type 0 where
+  pub value : Gives (λ x. (x, after)) result said
+  pub shorter : OnOk result (length after.rest < length before.rest)
 
 -- what a name that has a meaning of its own stands for
 abbrev pub meaning_or_fault : {A : Type 0} → ReaderState → Option A → Read A
