@@ -228,6 +228,8 @@ impl<'a> Parser<'a> {
     }
 
     /// A number of 32 bits, or a symbol with what is added to it.
+    // Called, it would have each value made in one place and copied to another before it is pushed.
+    #[inline(always)]
     #[tactic(auto, unfolding(crate::specs::Inside::Slots::value_at, crate::specs::Inside::Slots::signed_at, crate::specs::Inside::Slots::unsigned_at))]
     pub fn value(&mut self, kind: Kind) -> Result<Value, ParseFault>
         ensures { ReadsSlot self.old self.new result (value_at kind self.old) }
