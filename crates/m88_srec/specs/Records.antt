@@ -31,8 +31,7 @@ type_of digit =
 abbrev pub is_bare : Purpose → Bool
 is_bare Header = false
 is_bare Data = false
-is_bare Tally = true
-is_bare End = true
+is_bare _ = true
 
 -- the letter `S`
 abbrev pub letter_s : ℕ
@@ -51,9 +50,8 @@ are_pairs (digit ∷ digits) = are_more_pairs (digit ∷ digits)
 
 -- the bytes that pairs of digits write
 abbrev pub bytes_in : List ℕ → List ℕ
-bytes_in [] = []
-bytes_in (high ∷ []) = []
 bytes_in (high ∷ low ∷ digits) = (digit_value high * 16 + digit_value low) ∷ bytes_in digits
+bytes_in _ = []
 
 -- the sum of a record: the complement of the low byte of the sum of the bytes before it
 abbrev pub check_of : List ℕ → ℕ

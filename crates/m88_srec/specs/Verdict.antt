@@ -35,10 +35,9 @@ formed_as (Some t) bytes = Some (record { purpose = t.purpose; width = t.width; 
 
 -- the form of a line, where it has one
 unfoldable pub record_form : List ℕ → Option Formed
-record_form [] = None
-record_form (s ∷ []) = None
 record_form (s ∷ digit ∷ digits) =
     if s == letter_s && are_pairs digits then formed_as (type_of digit) (bytes_in digits) else None
+record_form _ = None
 
 -- the count that is written
 abbrev pub written_count : Formed → ℕ
@@ -74,8 +73,7 @@ record_data f = drop (f.width + 1) (take (following f) f.bytes)
 -- data is loaded, unless it is too large or a byte is given twice
 abbrev pub placed_on : Option ℕ → Load → ℕ → List ℕ → Result Load SrecKind
 placed_on (Some taken) load at given = Err (Overlap taken)
-placed_on None load at given =
-    Ok (record { loaded = with_data at given load.loaded; records = load.records + 1; start = load.start })
+placed_on None load at given = Ok (record load { loaded = with_data at given load.loaded; records = load.records + 1 })
 
 -- data against what is loaded already
 unfoldable pub placed : Load → ℕ → List ℕ → Result Load SrecKind
