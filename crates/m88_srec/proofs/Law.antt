@@ -8,7 +8,7 @@ use Rattle.m88_base.specs.OneVerdict.{HasOneVerdict}
 use Rattle.m88_srec.specs.Accepted.{WriteEntries, ComeTo, Fits, IsAccepted, Whole, empty_line, ended, filled, headed, no_line, address_of, entry_line, tallied}
 use Rattle.m88_srec.specs.Placing.{Loaded, first_taken, is_beyond, nothing_loaded, with_data}
 use Rattle.m88_srec.specs.Records.{Entry, WritesEntry}
-use Rattle.m88_srec.specs.Verdict.{IsFirstSrecFault, Load, acted, ended_on, go_on, judged, opening_load, placed, placed_on, verdict, verdict_from}
+use Rattle.m88_srec.specs.Verdict.{IsFirstSrecFault, Load, acted, ended_on, go_on, judged, opening_load, data_placed, placed_on, verdict, verdict_from}
 use Rattle.m88_srec.specs.declared.fault.SrecFault.{SrecFault}
 use Rattle.m88_srec.specs.declared.fault.SrecKind.{SrecKind}
 use Rattle.m88_srec.specs.declared.fault.SrecKind.TheVariants.{CountRecord, TooLarge}
@@ -40,10 +40,10 @@ from_placed_on : (taken : Option ℕ) (load later : Load) (at : ℕ) (given : Li
 from_placed_on (Some a) load later at given e = absurd cc
 from_placed_on None load later at given e = (refl, cc)
 
-from_placed : (load later : Load) (entry : Entry) → placed load (address_of entry.address) entry.given ≡ Ok later
+from_placed : (load later : Load) (entry : Entry) → data_placed load (address_of entry.address) entry.given ≡ Ok later
     → Fits entry load.loaded
     × (record { loaded = with_data (address_of entry.address) entry.given load.loaded; records = load.records + 1; start = load.start } ≡ later)
-unfolding placed
+unfolding data_placed
 from_placed load later entry e =
     let at : ℕ = address_of entry.address in
     let n : ℕ = length entry.given in
@@ -156,9 +156,9 @@ after_end number n loaded s ((b ∷ bs) ∷ lines) lines_of_none = elim lines_of
 
 -- data that fits is placed
 is_placed : (loaded : Loaded) (n : ℕ) (entry : Entry) → Fits entry loaded
-    → placed (open_load loaded n) (address_of entry.address) entry.given
+    → data_placed (open_load loaded n) (address_of entry.address) entry.given
     ≡ Ok (open_load (with_data (address_of entry.address) entry.given loaded) (n + 1))
-unfolding placed
+unfolding data_placed
 is_placed loaded n entry fits =
     let at : ℕ = address_of entry.address in
     let below = fits.below in

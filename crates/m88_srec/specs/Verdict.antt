@@ -76,15 +76,15 @@ placed_on (Some taken) load at given = Err (Overlap taken)
 placed_on None load at given = Ok (record load { loaded = with_data at given load.loaded; records = load.records + 1 })
 
 -- data against what is loaded already
-unfoldable pub placed : Load → ℕ → List ℕ → Result Load SrecKind
-placed load at given =
+unfoldable pub data_placed : Load → ℕ → List ℕ → Result Load SrecKind
+data_placed load at given =
     if is_beyond at (length given) load.loaded then Err TooLarge
     else placed_on (first_taken load.loaded.found at (length given)) load at given
 
 -- what a record does by its purpose
 unfoldable pub acted : Load → Purpose → ℕ → List ℕ → Result Load SrecKind
 acted load Header at given = Ok load
-acted load Data at given = placed load at given
+acted load Data at given = data_placed load at given
 acted load Tally at given = if at == load.records then Ok load else Err (CountRecord at load.records)
 acted load End at given = Ok (record load { start = Some at })
 

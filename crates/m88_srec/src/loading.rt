@@ -1,7 +1,7 @@
 //! What the lines so far load, and one line more.
 ghost use Rattle.std.specs.Prelude.{◌≡◌, ◌≤◌, ◌<◌, ◌^◌, length};
 ghost use Rattle.m88_srec.specs.Accepted.{whole_of};
-ghost use Rattle.m88_srec.specs.Verdict.{acted, ended_on, framed_on, judged, opening_load, placed, summed};
+ghost use Rattle.m88_srec.specs.Verdict.{acted, ended_on, framed_on, judged, opening_load, data_placed, summed};
 ghost use Rattle.m88_srec.specs.Front.{most_kept};
 ghost use Rattle.m88_srec.specs.Inside.Forms.{AreWhole, form_seen};
 ghost use Rattle.m88_srec.specs.GivesVerdict.{GivesVerdict};
@@ -123,10 +123,10 @@ impl Loading {
     }
 
     /// Loads data from an address on.
-    #[tactic(auto, using(crate::proofs::Free::placing), unfolding(crate::specs::Verdict::placed))]
+    #[tactic(auto, using(crate::proofs::Free::placing), unfolding(crate::specs::Verdict::data_placed))]
     fn place(&mut self, at: u32, given: &[u8]) -> Result<(), SrecKind>
         requires { self.old.records < 2 ^ 31 }
-        ensures { TakesRecord self.old self.new result (placed (load_seen self.old) at given.now) }
+        ensures { TakesRecord self.old self.new result (data_placed (load_seen self.old) at given.now) }
     {
         match self.image.add(at, given) {
             Ok(()) => {
