@@ -1,6 +1,7 @@
 -- Where a text stands whole behind what a sink held, it was written whole.
-use Rattle.std.proofs.Common.{◌≡◌, ℕ, ◌<◌, ◌≤◌, ◌+◌, List, [], Option, Some, None, Bool, true, false, inl, inr, refl, Result, Ok, Err, length, length-append, take, ap, sym, ◌∙◌, subst, arith}
-use Rattle.std.specs.Prelude.{◌≢◌, MatchBool, OnErr, is_err}
+use Rattle.std.proofs.Common.{◌≡◌, ℕ, ◌<◌, ◌≤◌, ◌+◌, List, [], Option, Some, None, Bool, true, false, inl, inr, refl, IfSome, length, length-append, take, ap, sym, ◌∙◌, subst, arith}
+use Rattle.std.specs.Prelude.{◌≢◌, MatchBool}
+use Rattle.std.proofs.KnownBytes.{Consumes-whole}
 use Rattle.std.specs.Io.KnownBytes.{Consumes, IsAtEnd}
 use Rattle.m88_base.proofs.Laws.{same_input}
 use Rattle.m88_base.specs.Outside.{TakesExactly}
@@ -8,21 +9,17 @@ use Rattle.m88_cli.specs.Answer.{IsAnswerToAccepted, IsAnswer, IsAnswerToRefused
 use Rattle.m88_base.specs.Refusal.{Refusal, refusal_line}
 use Rattle.m88_board.specs.declared.glance.Glance.{Glance}
 use Rattle.m88_cli.specs.Inside.Reply.{Replies, WatchesReply}
+use Rattle.m88_cli.specs.Status.{ShowsNothing}
 use Rattle.m88_cli.specs.Watching.{Shown, ShownIfAccepted}
 use Rattle.m88_base.specs.declared.reply.Reply.{Reply}
 use Rattle.m88_base.specs.Status.{Answers, IsOfReading, WritesNothing}
 use Rattle.m88_base.specs.declared.status.Status.{Status}
 use Rattle.m88_base.specs.declared.status.Status.TheVariants.{Done, Usage, SourceFault, SinkFault, Refused, Memory, TooLong}
-use Rattle.m88_cli.specs.Calls.{CarriedOut, GivesInput, HasInput}
-use Rattle.m88_cli.specs.Command.{Command, InputKind, Spells, no_input, is_read, kind_of, reads_input}
+use Rattle.m88_cli.specs.Calls.{GivesInput, HasInput}
+use Rattle.m88_cli.specs.Command.{Command, InputKind, no_input, is_read, kind_of, reads_input}
 use Rattle.m88_cli.specs.Kinds.{IsRefusedAs}
 use Rattle.m88_cli.specs.Limits.{most_input}
 use Rattle.m88_cli.proofs.OneSource.{one_refusal, refused_not_accepted}
-
--- what holds of a call that failed
-pub of_err : {T E P : Type 0} (r : Result T E) → is_err r ≡ true → OnErr r P → P
-of_err (Ok x) e h = absurd cc
-of_err (Err x) e h = h
 
 -- want of memory is no fault of a source, nor a byte too many
 pub only_memory : (status : Status) → status ≡ Memory → (status ≢ SourceFault) × (status ≢ TooLong)
@@ -33,16 +30,12 @@ only_memory status e =
 pub refusal_some : (r : Refusal) → 0 < length (refusal_line r)
 refusal_some r = omega arith
 
--- a source that tells its bytes and is at its end has nothing left
-pub whole_input : (old new : Option (List ℕ)) (input given : List ℕ) → old ≡ Some input → IsAtEnd new → Consumes old new given → given ≡ input
-whole_input old None input given had end consumes = absurd (subst (λ o. Consumes o None given) had consumes)
-whole_input old (Some left) input given had end consumes = same_input old (Some left) input given had (ap Some end) consumes
-
 -- a command was given one input: what its source had
 by_reading : (reads : Bool) (before after : Option (List ℕ)) (input given : List ℕ)
     → MatchBool reads ((before ≡ Some input) × (length input ≤ most_input)) (input ≡ [])
     → MatchBool reads (Consumes before after given × IsAtEnd after) (given ≡ []) → given ≡ input
-by_reading true before after input given holds gives = whole_input before after input given holds.0 gives.1 gives.0
+by_reading true before after input given holds gives =
+    subst (λ left. IfSome left (λ had. given ≡ had)) holds.0 (Consumes-whole before after given (λ had. given ≡ had) gives.0 gives.1 refl)
 by_reading false before after input given holds gives = gives ∙ sym holds
 
 pub given_once : (command : Command) (before after : Option (List ℕ)) (input given : List ℕ) → HasInput command before input
@@ -122,21 +115,6 @@ by_accepted false command input text h = inr h
 pub answer_of : (command : Command) (input : List ℕ) (r : Reply) → Replies command input r → IsAnswer command input r.text.items
 answer_of command input r h = by_accepted r.accepted command input r.text.items h
 
--- a command whose reply's text was written was carried out
-pub writes_text : {words : List (List ℕ)} {before after : Option (List ℕ)} (command : Command) (reply : Reply) (text : List ℕ)
-    (IsGiven : List ℕ → Type 0) → Spells words command → RepliesToGiven command before after reply → text ≡ reply.text.items → IsGiven text
-    → CarriedOut words before after IsAnswer IsGiven (λ other input. Unit {0})
-writes_text command reply text IsGiven spelled ok is given = record {
-  command = command;
-  spelled = spelled;
-  input = ok.0;
-  given = ok.1;
-  text = reply.text.items;
-  is_text = answer_of command ok.0 reply ok.2;
-  written = subst IsGiven is given;
-  watched = tt;
-}
-
 -- the reply to an input that is refused is the line of that refusal
 only_refused : (command : Command) (input text : List ℕ) (r : Refusal) → Refuses command input r → IsAnswer command input text
     → text ≡ refusal_line r
@@ -158,12 +136,12 @@ pub shown_if : {W : Type 0} (seen : W → Option (List Glance)) (old new : W) (c
     → WatchesReply seen old new command input r → ShownIfAccepted seen old new command input
 shown_if seen old new command input r replies watches = by_reply r.accepted seen old new command input r.text.items replies watches
 
--- with an answer that comes before a command has its text nothing was written
-pub wrote_nothing : (s : Status) → IsOfReading s → WritesNothing s
-wrote_nothing Done h = h
-wrote_nothing Usage h = tt
-wrote_nothing SourceFault h = tt
-wrote_nothing SinkFault h = h
-wrote_nothing Refused h = h
-wrote_nothing Memory h = tt
-wrote_nothing TooLong h = tt
+-- a program that wrote and of which nobody was shown anything refused its input
+pub shows_refused : (s : Status) → ¬ WritesNothing s → ShowsNothing s → s ≡ Refused
+shows_refused Done some none = absurd none
+shows_refused Usage some none = absurd (some tt)
+shows_refused SourceFault some none = absurd (some tt)
+shows_refused SinkFault some none = absurd none
+shows_refused Refused some none = refl
+shows_refused Memory some none = absurd none
+shows_refused TooLong some none = absurd (some tt)

@@ -26,7 +26,7 @@ use crate::grammar::command;
 use crate::input::input_of;
 use crate::job::reply_to;
 use crate::reply::Reply;
-use m88_base::{Sink, Source, Status, write_all};
+use m88_base::{Sink, Source, Status};
 use m88_board::Watch;
 use std::alloc::Global;
 
@@ -45,13 +45,8 @@ pub fn m88<S: Source, K: Sink, W: Watch>(
     ensures usage { (result ≡ Status.Usage) ↔ SpellNothing (texts words.now) }
     ensures unread { SpellNoReader (texts words.now) → source.new ≡ source.old }
 
-    // The calls that are made of a source and of a sink that tell them: of the source at most two more than an
-    // input may have bytes, of the sink at most as many as the text has bytes.
+    // The calls that are made of a source that tells them: at most two more than an input may have bytes.
     ensures reads { CallsWithin (most_input + 2) (S.calls source.old) (S.calls source.new) }
-    ensures writes { ¬ WritesNothing result
-        → CarriedOut (texts words.now) (S.left source.old) (S.left source.new) IsAnswer
-        (λ text. CallsWithin (length text) (K.calls sink.old) (K.calls sink.new))
-        (λ _ _. Unit {0}) }
 
     // A command that has no input isn't answered by what a source does.
     ensures no_reader { SpellNoReader (texts words.now)
@@ -65,19 +60,22 @@ pub fn m88<S: Source, K: Sink, W: Watch>(
     ensures not_too_long { result ≢ Status.TooLong
         → TakesAtMost (S.left source.old) (S.left source.new) most_input }
 
-    // A command was carried out, its input is accepted, the sink was given its text, and the watch was shown
-    // its boards. For `run` the text is the report of the sequential machine over the source, and the boards
-    // are those of each event; for `share` the reports are those of each program's own run.
+    // A command was carried out, its input is accepted, the sink was given its text by no more calls than that
+    // has bytes, and the watch was shown its boards. For `run` the text is the report of the sequential machine
+    // over the source, and the boards are those of each event; for `share` the reports are those of each
+    // program's own run.
     ensures done { result ≡ Status.Done
-        → CarriedOut (texts words.now) (S.left source.old) (S.left source.new)
-        IsAnswerToAccepted (Appends (K.held sink.old) (K.held sink.new))
+        → CarriedOut (texts words.now) (S.left source.old) (S.left source.new) IsAnswerToAccepted
+        (λ text. Appends (K.held sink.old) (K.held sink.new) text
+        × CallsWithin (length text) (K.calls sink.old) (K.calls sink.new))
         (λ command input. Shown command input (W.seen watch.old) (W.seen watch.new)) }
 
-    // The input is not accepted, the sink was given the line that says so, and the watch nothing; an input
-    // whose line stands whole in the sink was refused.
+    // The input is not accepted, the sink was given the line that says so in the same way, and the watch
+    // nothing; an input whose line stands whole in the sink was refused.
     ensures refused { result ≡ Status.Refused
-        → CarriedOut (texts words.now) (S.left source.old) (S.left source.new)
-        IsAnswerToRefused (Appends (K.held sink.old) (K.held sink.new))
+        → CarriedOut (texts words.now) (S.left source.old) (S.left source.new) IsAnswerToRefused
+        (λ text. Appends (K.held sink.old) (K.held sink.new) text
+        × CallsWithin (length text) (K.calls sink.old) (K.calls sink.new))
         (λ _ _. watch.new ≡ watch.old) }
     ensures refusal { (command : Choice) (input : List ℕ) (refusal : Refusal)
         → Spells (texts words.now) command → Refuses command input refusal
@@ -85,12 +83,14 @@ pub fn m88<S: Source, K: Sink, W: Watch>(
         → IsWhole (K.held sink.old) (K.held sink.new) (refusal_line refusal)
         → result ≡ Status.Refused }
 
-    // The sink failed, and was given a front of the text that lacks at least one byte.
+    // The sink failed, and was given a front of the text that lacks at least one byte, by no more calls than the
+    // text has bytes.
     ensures sink_fault { result ≡ Status.SinkFault
         → Rose (K.faults sink.old) (K.faults sink.new) }
     ensures part { result ≡ Status.SinkFault
-        → CarriedOut (texts words.now) (S.left source.old) (S.left source.new)
-        IsAnswer (AppendsPart (K.held sink.old) (K.held sink.new))
+        → CarriedOut (texts words.now) (S.left source.old) (S.left source.new) IsAnswer
+        (λ text. AppendsPart (K.held sink.old) (K.held sink.new) text
+        × CallsWithin (length text) (K.calls sink.old) (K.calls sink.new))
         (ShownIfAccepted W.seen watch.old watch.new) }
 
     // With Done and Refused nothing failed: no failure of the source or of the sink is passed over.
@@ -136,17 +136,9 @@ pub fn m88<S: Source, K: Sink, W: Watch>(
     let Some(command) = command(words) else {
         return Status::Usage;
     };
-    let reply = match reply_from(alloc, &command, source, watch) {
-        Ok(reply) => reply,
-        Err(status) => return status,
-    };
-    if write_all(sink, reply.text.as_slice()).is_err() {
-        return Status::SinkFault;
-    }
-    if reply.accepted {
-        Status::Done
-    } else {
-        Status::Refused
+    match reply_from(alloc, &command, source, watch) {
+        Ok(reply) => reply.write_to(sink),
+        Err(status) => status,
     }
 }
 

@@ -32,12 +32,8 @@ pub fn m88list<S: Source, K: Sink>(
     ensures usage { (result ≡ Status.Usage) ↔ (0 < length words.now) }
     ensures unread { 0 < length words.now → source.new ≡ source.old }
 
-    // The calls that are made of a source and of a sink that tell them: of the source at most two more than it
-    // may have bytes, of the sink at most as many as the text has bytes.
+    // The calls that are made of a source that tells them: at most two more than it may have bytes.
     ensures reads { CallsWithin (most_input + 2) (S.calls source.old) (S.calls source.new) }
-    ensures writes { ¬ WritesNothing result
-        → IsListed (S.left source.old) (S.left source.new) Lists
-        (λ text. CallsWithin (length text) (K.calls sink.old) (K.calls sink.new)) }
 
     // The source failed, or it has a byte too many.
     ensures source_fault { result ≡ Status.SourceFault
@@ -47,27 +43,32 @@ pub fn m88list<S: Source, K: Sink>(
     ensures not_too_long { result ≢ Status.TooLong
         → TakesAtMost (S.left source.old) (S.left source.new) most_input }
 
-    // The source is accepted, was read to its end, and the sink was given its listing.
+    // The source is accepted, was read to its end, and the sink was given its listing, by no more calls than that
+    // has bytes.
     ensures done { result ≡ Status.Done
         → IsListed (S.left source.old) (S.left source.new) ListsAccepted
-        (Appends (K.held sink.old) (K.held sink.new)) }
+        (λ text. Appends (K.held sink.old) (K.held sink.new) text
+        × CallsWithin (length text) (K.calls sink.old) (K.calls sink.new)) }
 
-    // The source is not accepted, and the sink was given the text that says so; a source whose text stands whole
-    // in the sink was refused.
+    // The source is not accepted, and the sink was given the text that says so in the same way; a source whose
+    // text stands whole in the sink was refused.
     ensures refused { result ≡ Status.Refused
         → IsListed (S.left source.old) (S.left source.new) ListsRefused
-        (Appends (K.held sink.old) (K.held sink.new)) }
+        (λ text. Appends (K.held sink.old) (K.held sink.new) text
+        × CallsWithin (length text) (K.calls sink.old) (K.calls sink.new)) }
     ensures refusal { (bytes : List ℕ) (refusal : Refusal) → IsRefusedProgram 0 bytes refusal
         → S.left source.old ≡ Some bytes → S.left source.new ≡ Some []
         → IsWhole (K.held sink.old) (K.held sink.new) (refused_text bytes refusal)
         → result ≡ Status.Refused }
 
-    // The sink failed, and was given a front of the text that lacks at least one byte.
+    // The sink failed, and was given a front of the text that lacks at least one byte, by no more calls than the
+    // text has bytes.
     ensures sink_fault { result ≡ Status.SinkFault
         → Rose (K.faults sink.old) (K.faults sink.new) }
     ensures part { result ≡ Status.SinkFault
         → IsListed (S.left source.old) (S.left source.new) Lists
-        (AppendsPart (K.held sink.old) (K.held sink.new)) }
+        (λ text. AppendsPart (K.held sink.old) (K.held sink.new) text
+        × CallsWithin (length text) (K.calls sink.old) (K.calls sink.new)) }
 
     // With Done and Refused nothing failed: no failure of the source or of the sink is passed over.
     ensures unfailed { IsAnswered result → (S.faults source.new ≡ S.faults source.old)
