@@ -2,6 +2,7 @@
 use Rattle.std.proofs.Common.{ℕ, List, subst}
 use Rattle.m88_asm.proofs.Laws.{LinksAlike, links_alike}
 use Rattle.m88_asm.specs.Faults.{IsAssembled}
+use Rattle.m88_parse.proofs.Laws.{one_source_verdict}
 use Rattle.m88_cli.specs.Answer.{IsAnswerToAccepted}
 use Rattle.m88_cli.specs.Bridge.{AssembledLinksAlike, FitsInput}
 use Rattle.m88_cli.specs.Command.{asm}
@@ -12,7 +13,8 @@ alike : (source objects : List ℕ) → FitsInput source → IsAnswerToAccepted 
 alike source objects short a =
     let o = a.output in
     links_alike source objects o.unit (readable source short) o.is_unit
-    (subst IsAssembled (o.only a.accepted.unit a.accepted.is_unit) a.accepted.is_assembled) o.is_text
+    (subst IsAssembled ((one_source_verdict source).one_value a.accepted.unit o.unit a.accepted.is_unit o.is_unit) a.accepted.is_assembled)
+    o.is_text
 
 -- so the two commands answer alike
 pub assembled_links_alike : AssembledLinksAlike
@@ -25,7 +27,6 @@ assembled_links_alike source objects short a =
           output = record {
             image = h.output.image;
             of_objects = (l.images h.output.image h.accepted).0 h.output.of_source;
-            only = λ other is. h.output.only other ((l.images other h.accepted).1 is);
             is_output = h.output.is_text;
           };
         },
@@ -34,25 +35,12 @@ assembled_links_alike source objects short a =
           output = record {
             image = h.output.image;
             of_source = (l.images h.output.image accepted).1 h.output.of_objects;
-            only = λ other is. h.output.only other ((l.images other accepted).0 is);
             is_text = h.output.is_output;
           };
         },
       );
       refusals = λ text. (
-        λ h. record {
-          unaccepted = λ k. h.unaccepted (l.accepted.1 k);
-          refusal = h.refusal;
-          refused = (l.refusals h.refusal).0 h.refused;
-          only = λ other also. h.only other ((l.refusals other).1 also);
-          line = h.line;
-        },
-        λ h. record {
-          unaccepted = λ k. h.unaccepted (l.accepted.0 k);
-          refusal = h.refusal;
-          refused = (l.refusals h.refusal).1 h.refused;
-          only = λ other also. h.only other ((l.refusals other).0 also);
-          line = h.line;
-        },
+        λ h. record { refusal = h.refusal; refused = (l.refusals h.refusal).0 h.refused; line = h.line },
+        λ h. record { refusal = h.refusal; refused = (l.refusals h.refusal).1 h.refused; line = h.line },
       );
     }

@@ -21,7 +21,7 @@ built_again listing image is listed =
 -- what `dis` writes is built into the records of the one image of its input
 pub listed_builds_alike : ListedBuildsAlike
 listed_builds_alike records listing image answer is holds =
-    let own = answer.output.lists in
+    let own = answer.output in
     subst (λ i. IsAnswerToAccepted build listing (srec_text i))
     (one_written records own.image image own.is_image is own.is_written holds)
     (built_again listing own.image own.is_image own.is_listing)

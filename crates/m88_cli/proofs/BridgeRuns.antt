@@ -5,12 +5,11 @@ use Rattle.m88_isa.specs.Machine.{Program}
 use Rattle.m88_asm.proofs.Laws.{Held, held_by, holds_unit}
 use Rattle.m88_srec.proofs.Laws.{image_is_accepted}
 use Rattle.m88_srec.specs.Accepted.{IsAccepted, whole_of}
-use Rattle.m88_event.specs.declared.outcome.Outcome.{Outcome}
 use Rattle.m88_report.specs.Report.{report_of}
 use Rattle.m88_cli.specs.Answer.{IsAnswerToAccepted}
 use Rattle.m88_cli.specs.Bridge.{BuiltRunsAlike, FitsInput}
 use Rattle.m88_cli.specs.Command.{build}
-use Rattle.m88_cli.specs.Runs.{ComesTo, IsLoadedProgram, IsReport}
+use Rattle.m88_cli.specs.Runs.{IsLoadedProgram, IsReport}
 use Rattle.m88_asm.specs.Sources.{IsSourceProgram}
 use Rattle.m88_cli.specs.Settings.{Settings}
 use Rattle.m88_cli.proofs.Linked.{readable}
@@ -51,19 +50,15 @@ from_loaded source records b p is =
     subst (IsSourceProgram source)
     (sym (one_loaded_program records p own.program is (loaded source records b p.mxm) (sym own.mode))) own.is_such
 
--- the reports of programs that are the same
-comes_by : (A B : Program → Type 0) (s : Settings) (o : Outcome)
-    → ((p : Program) → A p → B p) → ComesTo A s o → ComesTo B s o
-comes_by A B s o to c =
-    record { program = c.program; is_such = to c.program c.is_such; mode = c.mode; is_outcome = c.is_outcome }
-
-report_by : (A B : Program → Type 0) (s : Settings) (text : List ℕ)
-    → ((p : Program) → A p → B p) → ((p : Program) → B p → A p) → IsReport report_of A s text
+-- the report of a program is that of one that is such too
+report_by : (A B : Program → Type 0) (s : Settings) (text : List ℕ) → ((p : Program) → A p → B p) → IsReport report_of A s text
     → IsReport report_of B s text
-report_by A B s text to from r = record {
+report_by A B s text to r = record {
+  program = r.program;
+  is_such = to r.program r.is_such;
+  mode = r.mode;
   outcome = r.outcome;
-  comes = comes_by A B s r.outcome to r.comes;
-  only = λ other comes. r.only other (comes_by B A s other from comes);
+  is_outcome = r.is_outcome;
   is_text = r.is_text;
 }
 
@@ -79,12 +74,12 @@ built_runs_alike source records short answer =
         λ h. record {
           accepted = (whole_of b.image, b.written);
           output = report_by (IsSourceProgram source)
-              (IsLoadedProgram records) s report to from h.output;
+              (IsLoadedProgram records) s report to h.output;
         },
         λ h. record {
           accepted = answer.accepted;
           output = report_by (IsLoadedProgram records)
-              (IsSourceProgram source) s report from to h.output;
+              (IsSourceProgram source) s report from h.output;
         },
       );
       watched = λ s before after. (

@@ -16,7 +16,7 @@ use Rattle.m88_trace.proofs.Laws.{run_trace_lines}
 use Rattle.m88_asm.specs.Sources.{IsProgramSource}
 use Rattle.m88_cli.specs.Bridge.{TracedIsChecked, with_trace}
 use Rattle.m88_cli.specs.TracedSources.{HasTrace, trace_separator}
-use Rattle.m88_cli.specs.Traces.{TracesTo}
+use Rattle.m88_cli.specs.Traces.{IsTraceText}
 
 -- no operation is called `trace`, so no source that has a unit has a line `trace`
 unread : (number : ℕ) → (fault : ParseFault) × (row_of_line number trace_separator ≡ Err fault)
@@ -32,9 +32,9 @@ parted source text accepted = ended_parted trace_separator source text accepted.
 -- An ended source has the programs of the source, and it is accepted as the source is: all that goes by the unit alone
 
 traced : (source text : List ℕ) (limit : ℕ) (absent : ℕ → Bool) (schedule : List Letter) → IsProgramSource source
-    → TracesTo source limit absent schedule text → (n : ℕ) × HasTrace (with_trace source text) n
+    → IsTraceText source limit absent schedule text → (n : ℕ) × HasTrace (with_trace source text) n
 traced source text limit absent schedule accepted traces =
-    let lines = run_trace_lines traces.program absent limit schedule text traces.holds in
+    let lines = run_trace_lines traces.program absent limit schedule text traces.holds.0 in
     let of_source = traces.of_source in (
       lines.0,
       record {
@@ -57,4 +57,4 @@ traced source text limit absent schedule accepted traces =
 -- what `trace` writes of a source is so many lines of the trace of the source's program, behind the line `trace`
 pub traced_is_checked : TracedIsChecked
 traced_is_checked source text limit absent schedule answer =
-    traced source text limit absent schedule answer.accepted answer.output.traces
+    traced source text limit absent schedule answer.accepted answer.output

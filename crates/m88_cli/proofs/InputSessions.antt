@@ -26,15 +26,16 @@ moved absent schedule cs ds p q text glances e f h =
     subst (λ r. IsSession (course_of r absent schedule) ds opening_session text glances) f
     (subst (λ xs. IsSession (course_of p absent schedule) xs opening_session text glances) e h)
 
-one_text : (input : List ℕ) (absent : ℕ → Bool) (schedule : List Letter) (mxm : Bool) (cs : List MonitorCommand) (p : Program) (text other : List ℕ)
-    (glances others : List Glance) → Scripted input mxm cs p → IsSession (course_of p absent schedule) cs opening_session text glances
-    → IsInputSession input absent schedule mxm other others → other ≡ text
-one_text input absent schedule mxm cs p text other glances others own is session =
-    let script = one_script input session.commands cs session.scripted.lines own.lines session.scripted.source own.source session.scripted.is_script own.is_script in
-    let program = one_source_program own.source session.program p (subst (λ s. IsSourceProgram s session.program) script.source session.scripted.is_program) own.is_program
-    (session.scripted.mode ∙ sym own.mode) in
-    (one_session (course_of p absent schedule) cs opening_session other text others glances
-    (moved absent schedule session.commands cs session.program p other others script.commands program session.is_session) is).0
+pub one_session_text : (input : List ℕ) (absent : ℕ → Bool) (schedule : List Letter) (mxm : Bool) (a b : List ℕ) (glances others : List Glance)
+    → IsInputSession input absent schedule mxm a glances → IsInputSession input absent schedule mxm b others → a ≡ b
+one_session_text input absent schedule mxm a b glances others x y =
+    let xs = x.scripted in
+    let ys = y.scripted in
+    let script = one_script input x.commands y.commands xs.lines ys.lines xs.source ys.source xs.is_script ys.is_script in
+    let program = one_source_program ys.source x.program y.program (subst (λ s. IsSourceProgram s x.program) script.source xs.is_program) ys.is_program
+    (xs.mode ∙ sym ys.mode) in
+    (one_session (course_of y.program absent schedule) y.commands opening_session a b glances others
+    (moved absent schedule x.commands y.commands x.program y.program a glances script.commands program x.is_session) y.is_session).0
 
 -- before the first event nothing was seen
 pub no_session_front : (c : Course) (commands : List MonitorCommand) (s : Session) → IsSessionFront c commands s []
@@ -71,11 +72,7 @@ module _ (input : List ℕ) (absent : ℕ → Bool) (schedule : List Letter) (mx
   pub session_of_input : (text : List ℕ) → IsTold text → IsMonitorText input absent schedule mxm text
   session_of_input text told =
       let own = told held.program held.of_image held.mode in
-      record {
-        glances = own.0;
-        session = record { commands = cs; program = held.program; scripted = scripted; is_session = own.1 };
-        only = λ other others session. one_text input absent schedule mxm cs held.program text other own.0 others scripted own.1 session;
-      }
+      (own.0, record { commands = cs; program = held.program; scripted = scripted; is_session = own.1 })
 
   pub shown_to_end : (text : List ℕ) → IsTold text → SawSession input absent schedule mxm before after
   shown_to_end text told =

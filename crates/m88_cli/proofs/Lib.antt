@@ -22,6 +22,7 @@ pub mod Linked
 pub mod Listed
 pub mod ObjectReplies
 pub mod InputSessions
+pub mod OneText
 pub mod Whole
 pub mod BridgeRuns
 pub mod Drawing

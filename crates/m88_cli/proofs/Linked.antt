@@ -1,13 +1,11 @@
 -- What a source is assembled and linked into answers it.
 use Rattle.std.proofs.Common.{◌≡◌, ◌<◌, ◌≤◌, ◌^◌, List, ℕ, length, ap, arith, ◌∙◌}
 use Rattle.m88_base.specs.Image.{ProgramImage}
-use Rattle.m88_asm.proofs.Laws.{one_source_image}
 use Rattle.m88_link.specs.ObjectText.{objects_text}
 use Rattle.m88_link.specs.declared.object.Object.{Object}
 use Rattle.m88_asm.specs.Accepted.{IsAcceptedUnit}
 use Rattle.m88_asm.specs.Images.{IsUnitImage}
 use Rattle.m88_parse.specs.Language.Units.{IsUnit}
-use Rattle.m88_parse.proofs.Laws.{one_source_verdict}
 use Rattle.m88_srec.specs.Written.{srec_text}
 use Rattle.m88_parse.specs.declared.unit.Unit.{Unit as Source}
 use Rattle.m88_cli.specs.Answer.{IsAnswerToAccepted}
@@ -28,7 +26,6 @@ assembled source text objects of_source is = record {
   output = record {
     unit = of_source.unit;
     is_unit = of_source.is_unit;
-    only = λ other is_too. (one_source_verdict source).one_value other of_source.unit is_too of_source.is_unit;
     is_text = is ∙ ap objects_text of_source.objects_are;
   };
 }
@@ -41,7 +38,6 @@ recorded source text u image is_unit is_accepted own is = record {
   output = record {
     image = image;
     of_source = record { unit = u; is_unit = is_unit; is_image = own };
-    only = λ other is_too. one_source_image source other image is_too (record { unit = u; is_unit = is_unit; is_image = own });
     is_text = is;
   };
 }

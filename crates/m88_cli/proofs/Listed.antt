@@ -1,5 +1,5 @@
 -- The listing of the image that S-records write answers them.
-use Rattle.std.proofs.Common.{◌≡◌, List, ℕ, ap, subst}
+use Rattle.std.proofs.Common.{◌≡◌, List, ℕ, ap}
 use Rattle.m88_base.specs.Image.{IsImage, ProgramImage}
 use Rattle.m88_base.proofs.Laws.{same_images}
 use Rattle.m88_disasm.specs.Listing.{IsImageListing}
@@ -17,15 +17,10 @@ one_written records i j a b written other =
     let whole : whole_of i ≡ whole_of j = cc in
     same_images i j a.apart b.apart (ap (λ (w : Whole). w.start) whole) (λ n. ap (λ (w : Whole). w.found n) whole)
 
--- and that has one listing
+-- and its listing answers them
 pub listed : (records text : List ℕ) (image : ProgramImage) → IsImage image → IsAccepted records (whole_of image) → IsImageListing image text
-    → ((other : List ℕ) → IsImageListing image other → other ≡ text) → IsAnswerToAccepted dis records text
-listed records text image is_image written is_listing only = record {
+    → IsAnswerToAccepted dis records text
+listed records text image is_image written is_listing = record {
   accepted = (whole_of image, written);
-  output = record {
-    lists = record { image = image; is_image = is_image; is_written = written; is_listing = is_listing };
-    only = λ other lists.
-        let same = one_written records lists.image image lists.is_image is_image lists.is_written written in
-        only other (subst (λ i. IsImageListing i other) same lists.is_listing);
-  };
+  output = record { image = image; is_image = is_image; is_written = written; is_listing = is_listing };
 }

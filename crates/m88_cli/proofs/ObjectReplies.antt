@@ -15,7 +15,6 @@ use Rattle.m88_cli.specs.Answer.{IsAnswerToAccepted}
 use Rattle.m88_asm.specs.Sources.{link_refusal}
 use Rattle.m88_cli.specs.Command.{link}
 use Rattle.m88_asm.specs.LinkedTexts.{IsImageOfObjects, IsRefusedObjects}
-use Rattle.m88_asm.proofs.Laws.{one_image_of}
 
 -- the records of the image of its objects
 pub linked_text : (text output : List ℕ) (given objects : List Object) (image : ProgramImage) → given ≡ objects → IsSoundText objects text
@@ -30,7 +29,6 @@ linked_text text output given objects image e is_text is_linkable is_linked is_i
       output = record {
         image = image;
         of_objects = own;
-        only = λ other is_too. one_image_of text other image is_too own;
         is_output = is;
       };
     }

@@ -23,7 +23,7 @@ same_paged : (a b : Paged) → a.outcome ≡ b.outcome → a.ins ≡ b.ins → a
 same_paged a b outcome ins outs = λ i. record { outcome = outcome i; ins = ins i; outs = outs i }
 
 module _ (source : List ℕ) (frames limit : ℕ) (absent : ℕ → Bool) (schedule : List Letter) where
-  one_paged : (a b : Paged) → PagesTo source frames limit absent schedule a → PagesTo source frames limit absent schedule b → a ≡ b
+  pub one_paged : (a b : Paged) → PagesTo source frames limit absent schedule a → PagesTo source frames limit absent schedule b → a ≡ b
   one_paged a b x y =
       let own = holds_of_same source _ _ x y in
       let outcome = one_outcome y.program absent limit schedule a.outcome b.outcome own.0 y.holds.0 in
@@ -53,7 +53,6 @@ module _ (source : List ℕ) (frames limit : ℕ) (absent : ℕ → Bool) (sched
         output = record {
           paged = o;
           comes = comes;
-          only = λ other also. one_paged other o also comes;
           alone = λ named letters other also. one_count named letters other o also comes;
           is_text = told;
         };

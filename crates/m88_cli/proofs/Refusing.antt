@@ -8,17 +8,14 @@ use Rattle.m88_cli.specs.Command.{Command}
 use Rattle.m88_cli.specs.Inside.Reply.{AnswersShown, IsRefusalOf, Replies}
 use Rattle.m88_board.specs.declared.glance.Glance.{Glance}
 use Rattle.m88_base.specs.declared.reply.Reply.{Reply}
-use Rattle.m88_cli.proofs.OneSource.{one_refusal, refused_not_accepted}
 
 -- the reply that refuses an input answers it
 pub refused_reply : (command : Command) (input : List ℕ) (refusal : Refusal) (result : Result Reply NoMemory)
     → Refuses command input refusal → IfOk result (IsRefusalOf refusal) → IfOk result (Replies command input)
 refused_reply command input refusal (Err e) refuses reply = tt
 refused_reply command input refusal (Ok r) refuses reply = rw reply.refused (record {
-  unaccepted = refused_not_accepted command input refusal refuses;
   refusal = refusal;
   refused = refuses;
-  only = λ other also. one_refusal command input other refusal also refuses;
   line = reply.line;
 })
 

@@ -5,7 +5,6 @@ use Rattle.m88_base.specs.Image.{IsImage, ProgramImage}
 use Rattle.m88_base.specs.declared.failing.NoMemory.{NoMemory}
 use Rattle.m88_isa.specs.ImageProgram.{IsProgramOf}
 use Rattle.m88_isa.specs.Machine.{Program}
-use Rattle.m88_event.proofs.Laws.{one_outcome}
 use Rattle.m88_event.specs.Letters.{letter_at}
 use Rattle.m88_event.specs.Run.{IsOutcome, IsRunning, moment_after, outcome_at}
 use Rattle.m88_event.specs.Timeline.{Moment, opening_moment}
@@ -95,12 +94,11 @@ module _ (told_of : Outcome → List ℕ) (IsSuch : Program → Type 0) (command
       record {
         accepted = r.accepted;
         output = r.is_output text (record {
+          program = h.program;
+          is_such = h.is_such;
+          mode = h.mode;
           outcome = told.0;
-          comes = record { program = h.program; is_such = h.is_such; mode = h.mode; is_outcome = told.1 };
-          only = λ other comes.
-              one_outcome h.program s.absent s.limit s.schedule other told.0
-              (subst (λ q. IsOutcome q s.absent s.limit s.schedule other) (h.only comes.program comes.is_such comes.mode) comes.is_outcome)
-              told.1;
+          is_outcome = told.1;
           is_text = told.2;
         });
       }

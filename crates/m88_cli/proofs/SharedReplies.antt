@@ -1,8 +1,7 @@
 -- What is told of a shared run answers the input, whose images hold the programs of its sources.
-use Rattle.std.proofs.Common.{◌≡◌, ℕ, Bool, ◌≤◌, List, [], ◌∷◌, arith, length, refl, subst, ◌∙◌}
+use Rattle.std.proofs.Common.{◌≡◌, ℕ, ◌≤◌, List, [], ◌∷◌, arith, length, refl, subst, ◌∙◌}
 use Rattle.m88_base.specs.Image.{ProgramImage}
 use Rattle.m88_base.specs.declared.absent.Absent.{Absent}
-use Rattle.m88_isa.specs.Machine.{Program}
 use Rattle.m88_mem.specs.Marks.{absent_in}
 use Rattle.m88_tasks.specs.Shared.{AreOwnOutcomes, Group, IsShared, opening_shared}
 use Rattle.m88_tasks.specs.Tasks.{IsGroupOf, IsTasksAt, TasksView, most_programs, most_shared_events}
@@ -11,9 +10,9 @@ use Rattle.m88_tasks.specs.declared.shared.Shared.{Shared}
 use Rattle.m88_cli.specs.Answer.{IsAnswerToAccepted}
 use Rattle.m88_cli.specs.Command.{share}
 use Rattle.m88_cli.specs.Inside.Placing.{HoldSources}
-use Rattle.m88_cli.specs.Sharing.{ShareTo, group_of, no_program, told_of_shared}
-use Rattle.m88_asm.specs.Several.{AreSourcePrograms, AreSourcesBehind, PlacedSource}
-use Rattle.m88_asm.proofs.Laws.{Shares, all_programs, as_many, one_list, program_held, program_mode, programs_count, same_programs, shares_by}
+use Rattle.m88_cli.specs.Sharing.{group_of, no_program, told_of_shared}
+use Rattle.m88_asm.specs.Several.{AreSourcesBehind, PlacedSource}
+use Rattle.m88_asm.proofs.Laws.{Shares, all_programs, as_many, program_held, program_mode, programs_count, shares_by}
 
 -- there is a source
 some_source : (n : ℕ) (text : List ℕ) (sources : List PlacedSource) → AreSourcesBehind n text sources → 1 ≤ length sources
@@ -45,23 +44,14 @@ is_group input images absent limit h s = record {
   limited = refl;
 }
 
--- an input has these programs alone
-same_in_input : (input : List ℕ) (limit : ℕ) (absent : ℕ → Bool) (schedule : List ShareLetter) (sources : List PlacedSource) (programs : List Program)
-    → AreSourcesBehind 0 input sources → AreSourcePrograms sources programs → (o : Shared) (to : ShareTo input limit absent schedule o)
-    → to.programs ≡ programs
-same_in_input input limit absent schedule sources programs are are_programs o to =
-    let same = one_list 0 input to.sources sources to.are_sources are in
-    same_programs sources to.programs programs (subst (λ (ss : List PlacedSource). AreSourcePrograms ss to.programs) same to.are_programs) are_programs
-
 pub shared : (input text : List ℕ) (images : List ProgramImage) (absent : Absent) (limit : ℕ) (schedule : List ShareLetter) (o : Shared) (tasks : TasksView)
     → HoldSources input images → ((g : Group) → IsGroupOf images absent limit g → IsTasksAt g (opening_shared g) tasks)
     → (g : Group) × IsGroupOf images absent limit g
     → ((g : Group) → IsTasksAt g (opening_shared g) tasks → IsShared g schedule o)
-    → ((g : Group) (a b : Shared) → IsShared g schedule a → IsShared g schedule b → a ≡ b)
     → ((g : Group) → IsTasksAt g (opening_shared g) tasks → AreOwnOutcomes g schedule o)
     → o.events ≤ most_shared_events (length schedule) (length tasks.programs.contexts) tasks.programs.board.limit
     → text ≡ told_of_shared o → IsAnswerToAccepted (share limit (absent_in absent) schedule) input text
-shared input text images absent limit schedule o tasks h at group run one own within told =
+shared input text images absent limit schedule o tasks h at group run own within told =
     let s = shares_by h.sources images h.hold (λ k image there. (group.0.programs k, group.1.programs k image there)) in
     let g = group_of s.programs limit (absent_in absent) in
     let stands = at g (is_group input images absent limit h s) in
@@ -73,19 +63,12 @@ shared input text images absent limit schedule o tasks h at group run one own wi
         are_programs = all_programs h.sources images h.hold;
       };
       output = record {
+        sources = h.sources;
+        are_sources = h.are_sources;
+        programs = s.programs;
+        are_programs = s.are_programs;
         shared = o;
-        comes = record {
-          sources = h.sources;
-          are_sources = h.are_sources;
-          programs = s.programs;
-          are_programs = s.are_programs;
-          is_shared = run g stands;
-        };
-        only = λ other to.
-            let same = same_in_input input limit (absent_in absent) schedule h.sources s.programs h.are_sources s.are_programs other to in
-            one g other o
-            (subst (λ (ps : List Program). IsShared (group_of ps limit (absent_in absent)) schedule other) same to.is_shared)
-            (run g stands);
+        is_shared = run g stands;
         own = own g stands;
         within = subst (λ n. o.events ≤ most_shared_events (length schedule) n limit)
             (stands.programs.count ∙ programs_count images s.programs s.of_images ∙ as_many h.sources images h.hold)

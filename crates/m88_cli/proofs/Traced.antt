@@ -6,7 +6,6 @@ use Rattle.m88_event.specs.declared.letter.Letter.{Letter}
 use Rattle.m88_isa.specs.ImageProgram.{IsProgramOf}
 use Rattle.m88_isa.specs.Machine.{Program}
 use Rattle.m88_report.specs.Report.{count_line}
-use Rattle.m88_trace.proofs.Laws.{one_run_trace}
 use Rattle.m88_trace.specs.Texts.{FaultOf, IsText}
 use Rattle.m88_trace.specs.declared.fault.TraceFault.TheVariants.{Differs}
 use Rattle.m88_trace.specs.Trace.{IsRunTrace, trace_line, trace_of}
@@ -14,33 +13,18 @@ use Rattle.m88_cli.specs.Answer.{IsAnswerToAccepted}
 use Rattle.m88_cli.specs.Command.{check, trace}
 use Rattle.m88_asm.specs.Inside.Held.{HoldsUnit}
 use Rattle.m88_asm.specs.Sources.{HoldsOfProgram}
-use Rattle.m88_cli.specs.Traces.{TracesTo}
 use Rattle.m88_cli.specs.TracedSources.{AreTraceParts, DiffersFromTrace, HasTrace, TraceParts, differs_refusal}
-use Rattle.m88_asm.proofs.Laws.{accepted_source, holds_by_image, holds_of_same}
-use Rattle.m88_cli.proofs.TracedInputs.{one_trace}
+use Rattle.m88_asm.proofs.Laws.{accepted_source, holds_by_image}
 
-module _ (source : List ℕ) (limit : ℕ) (absent : ℕ → Bool) (schedule : List Letter) where
-  -- the runs of a source with a limit have one trace
-  one_traces : (named : ℕ → Bool) (letters : List Letter) (a b : List ℕ) → TracesTo source limit named letters a
-      → TracesTo source limit absent schedule b → a ≡ b
-  one_traces named letters a b x y =
-      one_run_trace y.program limit named absent letters schedule a b (holds_of_same source _ _ x y) y.holds
-
-  pub traced : (text : List ℕ) (image : ProgramImage) (p : Program) → HoldsUnit source image → IsProgramOf image p
-      → ((q : Program) → IsProgramOf image q → q.mxm ≡ false → IsRunTrace q absent limit schedule text)
-      → ((q : Program) → IsProgramOf image q → q.mxm ≡ false → text ≡ trace_of q limit)
-      → IsAnswerToAccepted (trace limit absent schedule) source text
-  traced text image p holds of run alone =
-      let traces : TracesTo source limit absent schedule text = holds_by_image source image p _ holds of run in
-      let whole : HoldsOfProgram source (λ q. text ≡ trace_of q limit) = holds_by_image source image p _ holds of alone in
-      record {
-        accepted = accepted_source source image holds;
-        output = record {
-          traces = traces;
-          alone = holds_of_same source _ _ whole traces;
-          only = λ named letters other also. one_traces named letters other text also traces;
-        };
-      }
+pub traced : (source : List ℕ) (limit : ℕ) (absent : ℕ → Bool) (schedule : List Letter) (text : List ℕ) (image : ProgramImage) (p : Program)
+    → HoldsUnit source image → IsProgramOf image p
+    → ((q : Program) → IsProgramOf image q → q.mxm ≡ false → IsRunTrace q absent limit schedule text)
+    → ((q : Program) → IsProgramOf image q → q.mxm ≡ false → text ≡ trace_of q limit)
+    → IsAnswerToAccepted (trace limit absent schedule) source text
+traced source limit absent schedule text image p holds of run alone = record {
+  accepted = accepted_source source image holds;
+  output = holds_by_image source image p _ holds of (λ q is mode. (run q is mode, alone q is mode));
+}
 
 module _ (input : List ℕ) (t : TraceParts) (image : ProgramImage) (p : Program) (are : AreTraceParts input t)
     (holds : HoldsUnit t.source image) (of : IsProgramOf image p) where
@@ -56,7 +40,7 @@ module _ (input : List ℕ) (t : TraceParts) (image : ProgramImage) (p : Program
       } in
       record {
         accepted = (n, has);
-        output = record { count = n; has = has; only = λ other also. one_trace input other n also has; is_text = is };
+        output = (n, has, is);
       }
 
   -- or a line differs

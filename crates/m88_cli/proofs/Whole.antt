@@ -1,5 +1,5 @@
 -- Where a text stands whole behind what a sink held, it was written whole.
-use Rattle.std.proofs.Common.{◌≡◌, ℕ, ◌<◌, ◌≤◌, ◌+◌, List, [], Option, Some, None, Bool, true, false, inl, inr, refl, IfSome, length, length-append, take, ap, sym, ◌∙◌, subst, arith}
+use Rattle.std.proofs.Common.{◌≡◌, ℕ, ◌<◌, ◌≤◌, ◌+◌, List, [], Option, Some, None, Bool, true, false, inl, inr, refl, IfSome, length, length-append, ap, sym, ◌∙◌, subst, arith}
 use Rattle.std.specs.Prelude.{◌≢◌, MatchBool}
 use Rattle.std.proofs.KnownBytes.{Consumes-whole}
 use Rattle.std.specs.Io.KnownBytes.{Consumes, IsAtEnd}
@@ -130,7 +130,7 @@ by_reply : {W : Type 0} (accepted : Bool) (seen : W → Option (List Glance)) (o
     → MatchBool accepted (IsAnswerToAccepted command input text) (IsAnswerToRefused command input text)
     → MatchBool accepted (Shown command input (seen old) (seen new)) (new ≡ old) → ShownIfAccepted seen old new command input
 by_reply true seen old new command input text replies watches = inl (replies.accepted, watches)
-by_reply false seen old new command input text replies watches = inr (replies.unaccepted, watches)
+by_reply false seen old new command input text replies watches = inr (refused_not_accepted command input replies.refusal replies.refused, watches)
 
 pub shown_if : {W : Type 0} (seen : W → Option (List Glance)) (old new : W) (command : Command) (input : List ℕ) (r : Reply) → Replies command input r
     → WatchesReply seen old new command input r → ShownIfAccepted seen old new command input

@@ -50,12 +50,10 @@ pub record IsAnswerToAccepted (command : Command) (input text : List ℕ) : Type
   pub accepted : Accepts command input
   pub output : IsOutput command input text
 
--- the text answers an input that the command doesn't accept: it is the line of the one refusal
+-- the text answers an input that the command refuses: it is the line of the refusal
 pub record IsAnswerToRefused (command : Command) (input text : List ℕ) : Type 0 where
-  pub unaccepted : ¬ Accepts command input
   pub refusal : Refusal
   pub refused : Refuses command input refusal
-  pub only : (other : Refusal) → Refuses command input other → other ≡ refusal
   pub line : text ≡ refusal_line refusal
 
 -- the text answers an input

@@ -9,16 +9,14 @@ use Rattle.m88_asm.specs.Objects.{objects_of}
 use Rattle.m88_asm.specs.Sources.{IsSourceImage}
 use Rattle.m88_srec.specs.Written.{srec_text}
 
--- the text is that of the objects of the source's unit, and the source has no other unit
+-- the text is that of the objects of the source's unit
 pub record IsObjectText (source text : List ℕ) : Type 0 where
   pub unit : Source
   pub is_unit : IsUnit source unit
-  pub only : (other : Source) → IsUnit source other → other ≡ unit
   pub is_text : text ≡ objects_text (objects_of unit)
 
--- the text is the S-records of the source's image, and the source has no other image
+-- the text is the S-records of the source's image
 pub record IsRecordText (source text : List ℕ) : Type 0 where
   pub image : ProgramImage
   pub of_source : IsSourceImage source image
-  pub only : (other : ProgramImage) → IsSourceImage source other → other ≡ image
   pub is_text : text ≡ srec_text image

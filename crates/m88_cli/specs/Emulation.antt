@@ -25,15 +25,7 @@ told_of_emulated o =
     ++ count_line (codes "emulated") (length o.emulated)
     ++ flat_map emulation_line (enumerate_from 1 o.emulated)
 
--- a run of the source's program comes to this, MXM clear
-abbrev pub EmulatesTo : List ℕ → ℕ → (ℕ → Bool) → List Letter → EmulOutcome → Type 0
-EmulatesTo source limit absent schedule o =
-    HoldsOfProgram source (λ p. IsExtendedOutcome p absent limit schedule o)
-
--- the text is what is told of that, and it comes to nothing else
-pub record IsEmulatedText (source : List ℕ) (limit : ℕ) (absent : ℕ → Bool) (schedule : List Letter) (text : List ℕ)
-    : Type 0 where
-  pub outcome : EmulOutcome
-  pub comes : EmulatesTo source limit absent schedule outcome
-  pub only : (other : EmulOutcome) → EmulatesTo source limit absent schedule other → other ≡ outcome
-  pub is_text : text ≡ told_of_emulated outcome
+-- the text is what is told of what a run of the source's program comes to, MXM clear
+abbrev pub IsEmulatedText : List ℕ → ℕ → (ℕ → Bool) → List Letter → List ℕ → Type 0
+IsEmulatedText source limit absent schedule text = HoldsOfProgram source (λ p.
+    (o : EmulOutcome) × IsExtendedOutcome p absent limit schedule o × (text ≡ told_of_emulated o))

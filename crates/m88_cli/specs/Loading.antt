@@ -14,16 +14,11 @@ abbrev pub IsRecords : List ℕ → Type 0
 IsRecords text = (whole : Whole) × IsAccepted text whole
 
 -- the text is the listing of the image that S-records write
-pub record ListsRecords (records text : List ℕ) : Type 0 where
+pub record IsListingText (records text : List ℕ) : Type 0 where
   pub image : ProgramImage
   pub is_image : IsImage image
   pub is_written : IsAccepted records (whole_of image)
   pub is_listing : IsImageListing image text
-
--- and they have no other listing
-pub record IsListingText (records text : List ℕ) : Type 0 where
-  pub lists : ListsRecords records text
-  pub only : (other : List ℕ) → ListsRecords records other → other ≡ text
 
 -- the refusal for a fault of S-records, told at column 1 of its line
 abbrev pub srec_refusal : SrecFault → Refusal

@@ -25,13 +25,10 @@ pub record IsInputSession (input : List ℕ) (absent : ℕ → Bool) (schedule :
   pub scripted : Scripted input mxm commands program
   pub is_session : IsSession (course_of program absent schedule) commands opening_session text glances
 
--- the text is what a session writes, and no session writes another
-pub record IsMonitorText (input : List ℕ) (absent : ℕ → Bool) (schedule : List Letter) (mxm : Bool)
-    (text : List ℕ) : Type 0 where
-  pub glances : List Glance
-  pub session : IsInputSession input absent schedule mxm text glances
-  pub only : (other : List ℕ) (others : List Glance) → IsInputSession input absent schedule mxm other others
-      → other ≡ text
+-- the text is what a session writes
+abbrev pub IsMonitorText : List ℕ → (ℕ → Bool) → List Letter → Bool → List ℕ → Type 0
+IsMonitorText input absent schedule mxm text =
+    (glances : List Glance) × IsInputSession input absent schedule mxm text glances
 
 -- a watch was shown the glances of a whole session
 pub record SawSession (input : List ℕ) (absent : ℕ → Bool) (schedule : List Letter) (mxm : Bool)

@@ -22,13 +22,12 @@ abbrev pub PagesTo : List ℕ → ℕ → ℕ → (ℕ → Bool) → List Letter
 PagesTo source frames limit absent schedule o =
     HoldsOfProgram source (λ p. IsOutcome p absent limit schedule o.outcome × AreCounts p frames o)
 
--- the text is what is told of that, it comes to nothing else, and every run of the source with that limit and so many
--- frames has these counts, whatever pages are absent and whatever the schedule is
+-- the text is what is told of that, and every run of the source with that limit and so many frames has these counts,
+-- whatever pages are absent and whatever the schedule is
 pub record IsPagedText (source : List ℕ) (frames limit : ℕ) (absent : ℕ → Bool) (schedule : List Letter)
     (text : List ℕ) : Type 0 where
   pub paged : Paged
   pub comes : PagesTo source frames limit absent schedule paged
-  pub only : (other : Paged) → PagesTo source frames limit absent schedule other → other ≡ paged
   pub alone : (named : ℕ → Bool) (letters : List Letter) (other : Paged)
       → PagesTo source frames limit named letters other → (other.ins ≡ paged.ins) × (other.outs ≡ paged.outs)
   pub is_text : text ≡ told_of_paged frames paged

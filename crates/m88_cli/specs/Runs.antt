@@ -19,19 +19,14 @@ pub record IsLoadedProgram (text : List ℕ) (p : Program) : Type 0 where
   pub is_written : IsAccepted text (whole_of image)
   pub is_program : IsProgramOf image p
 
--- a run of such a program, in the mode of the settings, comes to the outcome
-pub record ComesTo (IsSuch : Program → Type 0) (settings : Settings) (o : Outcome) : Type 0 where
+-- the text is what is told of the outcome that a run of such a program comes to, in the mode of the settings
+pub record IsReport (told_of : Outcome → List ℕ) (IsSuch : Program → Type 0) (settings : Settings)
+    (text : List ℕ) : Type 0 where
   pub program : Program
   pub is_such : IsSuch program
   pub mode : program.mxm ≡ settings.mxm
-  pub is_outcome : IsOutcome program settings.absent settings.limit settings.schedule o
-
--- the text is what is told of the outcome that a run of such a program comes to, and it comes to no other
-pub record IsReport (told_of : Outcome → List ℕ) (IsSuch : Program → Type 0) (settings : Settings)
-    (text : List ℕ) : Type 0 where
   pub outcome : Outcome
-  pub comes : ComesTo IsSuch settings outcome
-  pub only : (other : Outcome) → ComesTo IsSuch settings other → other ≡ outcome
+  pub is_outcome : IsOutcome program settings.absent settings.limit settings.schedule outcome
   pub is_text : text ≡ told_of outcome
 
 -- the settings of the run of a workload: as many instructions as it has statements, each page absent at first, its

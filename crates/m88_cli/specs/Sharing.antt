@@ -56,22 +56,16 @@ group_of programs limit absent = record {
   limit = limit;
 }
 
--- the programs of an input's sources come to this on one board
-pub record ShareTo (input : List ℕ) (limit : ℕ) (absent : ℕ → Bool) (schedule : List ShareLetter) (o : Shared)
-    : Type 0 where
+-- the text is what is told of what the programs of an input's sources come to on one board; what each comes to is what
+-- its own run comes to under the letters that it took, and there are no more events than are told here
+pub record IsSharedText (input : List ℕ) (limit : ℕ) (absent : ℕ → Bool) (schedule : List ShareLetter)
+    (text : List ℕ) : Type 0 where
   pub sources : List PlacedSource
   pub are_sources : AreSources input sources
   pub programs : List Program
   pub are_programs : AreSourcePrograms sources programs
-  pub is_shared : IsShared (group_of programs limit absent) schedule o
-
--- the text is what is told of that, and they come to nothing else; what each program comes to is what its own run comes
--- to under the letters that it took, and there are no more events than are told here
-pub record IsSharedText (input : List ℕ) (limit : ℕ) (absent : ℕ → Bool) (schedule : List ShareLetter)
-    (text : List ℕ) : Type 0 where
   pub shared : Shared
-  pub comes : ShareTo input limit absent schedule shared
-  pub only : (other : Shared) → ShareTo input limit absent schedule other → other ≡ shared
-  pub own : AreOwnOutcomes (group_of comes.programs limit absent) schedule shared
-  pub within : shared.events ≤ most_shared_events (length schedule) (length comes.sources) limit
+  pub is_shared : IsShared (group_of programs limit absent) schedule shared
+  pub own : AreOwnOutcomes (group_of programs limit absent) schedule shared
+  pub within : shared.events ≤ most_shared_events (length schedule) (length sources) limit
   pub is_text : text ≡ told_of_shared shared

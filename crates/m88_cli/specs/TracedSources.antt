@@ -75,9 +75,6 @@ pub record DiffersFromTrace (input : List ℕ) (r : Refusal) : Type 0 where
 abbrev pub IsRefusedTrace : List ℕ → Refusal → Type 0
 IsRefusedTrace input r = IsUntraced input r ⊎ (IsRefusedBeforeTrace input r ⊎ DiffersFromTrace input r)
 
--- the text tells how many lines of its trace the input has, and it has no other number of them
-pub record IsCheckText (input text : List ℕ) : Type 0 where
-  pub count : ℕ
-  pub has : HasTrace input count
-  pub only : (other : ℕ) → HasTrace input other → other ≡ count
-  pub is_text : text ≡ count_line (codes "ok") count
+-- the text tells how many lines of its trace the input has
+abbrev pub IsCheckText : List ℕ → List ℕ → Type 0
+IsCheckText input text = (count : ℕ) × HasTrace input count × (text ≡ count_line (codes "ok") count)

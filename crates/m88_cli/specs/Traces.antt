@@ -5,16 +5,8 @@ use Rattle.m88_event.specs.declared.letter.Letter.{Letter}
 use Rattle.m88_trace.specs.Trace.{IsRunTrace, trace_of}
 use Rattle.m88_asm.specs.Sources.{HoldsOfProgram}
 
--- the text is the trace of a run of the source's program, MXM clear
-abbrev pub TracesTo : List ℕ → ℕ → (ℕ → Bool) → List Letter → List ℕ → Type 0
-TracesTo source limit absent schedule text =
-    HoldsOfProgram source (λ p. IsRunTrace p absent limit schedule text)
-
--- it is that, it is the trace of the program up to the limit, and every run of the source with that limit has this
--- trace, whatever pages are absent and whatever the schedule is
-pub record IsTraceText (source : List ℕ) (limit : ℕ) (absent : ℕ → Bool) (schedule : List Letter) (text : List ℕ)
-    : Type 0 where
-  pub traces : TracesTo source limit absent schedule text
-  pub alone : text ≡ trace_of traces.program limit
-  pub only : (named : ℕ → Bool) (letters : List Letter) (other : List ℕ) → TracesTo source limit named letters other
-      → other ≡ text
+-- the text is the trace of a run of the source's program, MXM clear, and that of the program up to the limit, whatever
+-- pages are absent and whatever the schedule is
+abbrev pub IsTraceText : List ℕ → ℕ → (ℕ → Bool) → List Letter → List ℕ → Type 0
+IsTraceText source limit absent schedule text =
+    HoldsOfProgram source (λ p. IsRunTrace p absent limit schedule text × (text ≡ trace_of p limit))

@@ -7,7 +7,7 @@ ghost use Rattle.m88_base.specs.OneVerdict.{HasOneFaultUnless, HasOneVerdict};
 ghost use Rattle.m88_base.specs.Outside.{AppendsPart, IsWhole, TakesAtMost, TakesExactly};
 ghost use Rattle.m88_base.specs.Reading.{ReadsSource};
 ghost use Rattle.m88_base.specs.Status.{Answers, IsAnswered, IsOfReading, WritesNothing};
-ghost use Rattle.m88_cli.specs.Answer.{Accepts, IsAnswer, IsAnswerToAccepted, IsAnswerToRefused, Refuses};
+ghost use Rattle.m88_cli.specs.Answer.{Accepts, IsAnswer, IsAnswerToAccepted, IsAnswerToRefused, IsOutput, Refuses};
 ghost use Rattle.m88_cli.specs.Bridge.{AssembledLinksAlike, BuiltRunsAlike, ListedBuildsAlike, TracedIsChecked};
 ghost use Rattle.m88_cli.specs.Calls.{CarriedOut, GivesInput, Given, HasInput};
 ghost use Rattle.m88_cli.specs.Command.{Command as Choice, SpellNoReader, SpellNoRun, SpellNothing, Spells, reads_input, shows_boards};
@@ -114,10 +114,12 @@ pub fn m88<S: Source, K: Sink, W: Watch>(
         ⊎ Given (texts words.now) (S.left source.old) (S.left source.new)
         (λ command input. FrontOfAccepted command input (W.seen watch.old) (W.seen watch.new)) }
 
-    // A command accepts an input or refuses it for one reason, never both; and an input is a script with a
-    // source behind it, or there is one line at which it isn't.
+    // A command accepts an input or refuses it for one reason, never both, and writes no two texts for one that
+    // it accepts; and an input is a script with a source behind it, or there is one line at which it isn't.
     ensures one_verdict { (command : Choice) (input : List ℕ)
         → HasOneFaultUnless (Accepts command input) (Refuses command input) }
+    ensures one_text { (command : Choice) (input a b : List ℕ)
+        → IsOutput command input a → IsOutput command input b → a ≡ b }
     ensures one_script { (input : List ℕ)
         → HasOneVerdict (IsScriptOf input) (HasNoScript input) }
 

@@ -15,4 +15,4 @@ returns c =
     let p = c.run.ensures.program in
     emulated c.args.source.now c.in_ok-text.text.items c.in-Ok.image c.args.limit (absent_in c.args.absent.now) c.args.schedule.now
     c.in_ok-outcome.outcome p.0 (rw c.in-Ok.is at c.in_ok-image.ensures) p.1
-    c.in_ok-outcome.ensures.outcome c.run.ensures.only c.in_ok-text.ensures
+    c.in_ok-outcome.ensures.outcome c.in_ok-text.ensures

@@ -16,7 +16,7 @@ pub returns : goal.returns
 returns c = λ text are.
     let written = subst (λ records. AreRecordsOf records text) c.in-Ok.is are in
     listed text c.in_ok-text.text.items c.in-Ok.image c.part_count.ensures.image written
-    c.in_ok-text.ensures.value c.in_ok-text.ensures.only
+    c.in_ok-text.ensures.value
 
 -- each part has a byte
 pub prove-unreachable-requires : goal.prove-unreachable-requires

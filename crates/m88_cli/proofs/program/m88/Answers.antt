@@ -11,6 +11,7 @@ use Rattle.m88_cli.proofs.BridgeListings.{listed_builds_alike}
 use Rattle.m88_cli.proofs.BridgeTraces.{traced_is_checked}
 use Rattle.m88_cli.proofs.OneScript as scripts
 use Rattle.m88_cli.proofs.OneSource.{one_verdict, refused_not_accepted}
+use Rattle.m88_cli.proofs.OneText.{one_text}
 use Rattle.m88_cli.proofs.Whole.{answer_of, line_of_reply, only_memory, refusal_some, reply_given, reply_whole, shown_if, shows_refused, unanswered}
 use Rattle.m88_cli.proofs.program.m88.Goals as goal
 
@@ -96,7 +97,9 @@ returns-in-Ok-clause-complete g c = λ command input spelled holds sound unfaili
     holds (ok.0, ok.1, ok.2) in
     answered (Accepts command input) c.write_to.result c.write_to.ensures.written
     (λ e. let done = c.write_to.ensures.done e in (rw done.0 at replies).accepted)
-    (λ e. let refused = c.write_to.ensures.refused e in (rw refused.0 at replies).unaccepted)
+    (λ e. let refused = c.write_to.ensures.refused e in
+    let told = rw refused.0 at replies in
+    refused_not_accepted command input told.refusal told.refused)
     (λ e. unfailing (c.write_to.ensures.sink_fault e))
 
 pub returns-in-Ok-clause-unshown : goal.returns-in-Ok-clause-unshown
@@ -154,3 +157,12 @@ returns-in-Err-clause-one_script g c = scripts.one_verdict
 
 pub returns-in-Ok-clause-one_script : goal.returns-in-Ok-clause-one_script
 returns-in-Ok-clause-one_script g c = scripts.one_verdict
+
+pub returns-in_default-clause-one_text : goal.returns-in_default-clause-one_text
+returns-in_default-clause-one_text g c = one_text
+
+pub returns-in-Err-clause-one_text : goal.returns-in-Err-clause-one_text
+returns-in-Err-clause-one_text g c = one_text
+
+pub returns-in-Ok-clause-one_text : goal.returns-in-Ok-clause-one_text
+returns-in-Ok-clause-one_text g c = one_text

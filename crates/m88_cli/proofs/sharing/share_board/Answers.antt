@@ -27,5 +27,5 @@ returns c =
     let hold = rw c.in-Ok.is at c.in_ok-images.ensures in
     shared c.args.input.now c.in_ok-text.text.items c.as_slice.result.now c.args.absent.now c.args.limit c.args.schedule.now
     c.in_ok-shared.shared c.in_ok-tasks.tasks (subst (HoldSources c.args.input.now) (sym c.as_slice.ensures.value) hold)
-    c.in_ok-tasks.ensures.at c.in_ok-tasks.ensures.group c.in_ok-shared.ensures.ran.shared c.run.ensures.only c.in_ok-shared.ensures.ran.own
+    c.in_ok-tasks.ensures.at c.in_ok-tasks.ensures.group c.in_ok-shared.ensures.ran.shared c.in_ok-shared.ensures.ran.own
     c.in_ok-shared.ensures.ran.within c.in_ok-text.ensures
