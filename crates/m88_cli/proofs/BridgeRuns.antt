@@ -82,7 +82,7 @@ built_runs_alike source records short answer =
               (IsSourceProgram source) s report from h.output;
         },
       );
-      watched = λ s before after. (
+      shows = λ s glances. (
         λ h. (h.0, to h.0 h.1, h.2),
         λ h. (h.0, from h.0 h.1, h.2),
       );

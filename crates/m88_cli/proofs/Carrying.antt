@@ -19,7 +19,8 @@ use Rattle.m88_cli.proofs.Reporting.{no_glance}
 use Rattle.m88_cli.specs.Limits.{session_limit}
 use Rattle.m88_cli.specs.MonitorLines.{counts_text}
 use Rattle.m88_cli.specs.Script.{is_break, most_breaks}
-use Rattle.m88_cli.specs.Session.{Course, IsSession, IsSessionFront, Session, after_command, course_of, glances_of, moments_of, opening_session, stops_command, text_of_command}
+use Rattle.m88_cli.specs.Session.{Course, IsSession, Session, after_command, course_of, glances_of, moments_of, opening_session, stops_command, text_of_command}
+use Rattle.m88_cli.specs.Inside.Fronts.{IsSessionFront}
 use Rattle.m88_cli.specs.Inside.SessionKept.{Broke, Carried, Carries, Stands, Went}
 use Rattle.m88_cli.specs.declared.monitor.Monitor.{Monitor}
 use Rattle.m88_cli.specs.declared.script.MonitorCommand.{MonitorCommand}

@@ -7,13 +7,20 @@ use Rattle.m88_event.specs.declared.letter.Letter.{Letter}
 use Rattle.m88_board.specs.Glances.{Saw}
 use Rattle.m88_board.specs.declared.glance.Glance.{Glance}
 use Rattle.m88_asm.specs.Inside.Held.{HoldsUnit}
+use Rattle.m88_cli.specs.Command.{mon}
+use Rattle.m88_cli.specs.Inside.Fronts.{IsSessionFront}
+use Rattle.m88_cli.specs.Limits.{session_limit}
 use Rattle.m88_cli.specs.Monitoring.{IsMonitorInput}
-use Rattle.m88_cli.specs.MonitorText.{IsInputSession, IsMonitorText, SawSession, SawSessionFront, Scripted}
+use Rattle.m88_cli.specs.MonitorText.{IsInputSession, IsMonitorText, Scripted}
 use Rattle.m88_asm.specs.Sources.{IsSourceProgram}
 use Rattle.m88_cli.specs.Script.{IsScript}
-use Rattle.m88_cli.specs.Session.{Course, IsSession, IsSessionFront, Session, course_of, moments_of, opening_session}
+use Rattle.m88_cli.specs.Session.{Course, IsSession, Session, course_of, moments_of, opening_session}
+use Rattle.m88_cli.specs.Watching.{FrontOfAccepted, Shown}
 use Rattle.m88_cli.specs.declared.script.MonitorCommand.{MonitorCommand}
+use Rattle.m88_isa.proofs.Laws.{program_of_image}
 use Rattle.m88_cli.proofs.Carrying.{one_session}
+use Rattle.m88_cli.proofs.Ends.{opens_sound}
+use Rattle.m88_cli.proofs.SessionEnds.{session_goes_on}
 use Rattle.m88_asm.proofs.Laws.{Held, accepted_source, held_by, one_source_program}
 use Rattle.m88_cli.proofs.Reporting.{no_glance}
 use Rattle.m88_cli.proofs.Scripts.{one_script}
@@ -74,20 +81,23 @@ module _ (input : List ℕ) (absent : ℕ → Bool) (schedule : List Letter) (mx
       let own = told held.program held.of_image held.mode in
       (own.0, record { commands = cs; program = held.program; scripted = scripted; is_session = own.1 })
 
-  pub shown_to_end : (text : List ℕ) → IsTold text → SawSession input absent schedule mxm before after
+  pub shown_to_end : (text : List ℕ) → IsTold text → Shown (mon absent schedule mxm) input before after
   shown_to_end text told =
       let own = told held.program held.of_image held.mode in
-      record {
-        text = text;
-        glances = own.0;
-        session = record { commands = cs; program = held.program; scripted = scripted; is_session = own.1 };
-        saw = own.2;
-      }
+      (own.0, (text, record { commands = cs; program = held.program; scripted = scripted; is_session = own.1 }), own.2)
 
   -- and where it broke off, a front of that
   pub front_of_input : ((p : Program) → IsProgramOf image p → p.mxm ≡ mxm → (glances : List Glance)
       × IsSessionFront (course_of p absent schedule) cs opening_session glances × Saw before after glances)
-      → SawSessionFront input absent schedule mxm before after
+      → FrontOfAccepted (mon absent schedule mxm) input before after
   front_of_input told =
       let own = told held.program held.of_image held.mode in
-      record { commands = cs; program = held.program; scripted = scripted; glances = own.0; is_front = own.1; saw = own.2 }
+      let on = session_goes_on (course_of held.program absent schedule) (program_of_image image held.program sound held.of_image) cs opening_session
+      own.0 (opens_sound held.program session_limit) own.1 in
+      record {
+        accepted = accepted_input input cs n source image is holds;
+        glances = own.0;
+        others = on.0;
+        shows = (on.1, record { commands = cs; program = held.program; scripted = scripted; is_session = on.2 });
+        saw = own.2;
+      }

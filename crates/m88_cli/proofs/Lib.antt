@@ -16,6 +16,8 @@ pub mod SharedReplies
 pub mod Emulated
 pub mod Paged
 pub mod Traced
+pub mod Ends
+pub mod SessionEnds
 pub mod Reporting
 pub mod Refusing
 pub mod Linked

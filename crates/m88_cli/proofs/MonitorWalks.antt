@@ -14,7 +14,8 @@ use Rattle.m88_board.specs.Calls.{StaysOnRun}
 use Rattle.m88_board.specs.Moves.{IsAlong, IsAt, IsStep}
 use Rattle.m88_board.specs.Walks.{is_halt, is_made, moments_from, stops_after}
 use Rattle.m88_board.specs.declared.glance.Glance.{Glance}
-use Rattle.m88_cli.specs.Session.{Course, MakesEach, Session, moment_on, session_on, stops_command, stops_on}
+use Rattle.m88_cli.specs.Inside.Fronts.{MakesEach}
+use Rattle.m88_cli.specs.Session.{Course, Session, moment_on, session_on, stops_command, stops_on}
 use Rattle.m88_cli.specs.Inside.SessionKept.{Broke, Stands, Went}
 use Rattle.m88_cli.specs.declared.monitor.Monitor.{Monitor}
 use Rattle.m88_cli.specs.declared.script.MonitorCommand.{MonitorCommand}

@@ -1,11 +1,13 @@
 -- The reply that refuses an input answers it.
-use Rattle.std.proofs.Common.{List, ℕ, Option, Result, Ok, Err, inl, refl}
+use Rattle.std.proofs.Common.{◌≡◌, List, [], ℕ, Option, Result, Ok, Err, inl, refl}
 use Rattle.std.specs.Prelude.{IfOk}
 use Rattle.m88_base.specs.Refusal.{Refusal}
 use Rattle.m88_base.specs.declared.failing.NoMemory.{NoMemory}
 use Rattle.m88_cli.specs.Answer.{Refuses}
 use Rattle.m88_cli.specs.Command.{Command}
 use Rattle.m88_cli.specs.Inside.Reply.{AnswersShown, IsRefusalOf, Replies}
+use Rattle.m88_board.proofs.Laws.{saw_none}
+use Rattle.m88_board.specs.Glances.{Saw}
 use Rattle.m88_board.specs.declared.glance.Glance.{Glance}
 use Rattle.m88_base.specs.declared.reply.Reply.{Reply}
 
@@ -26,3 +28,7 @@ pub refused_shown : {W : Type 0} (seen : W → Option (List Glance)) (watch : W)
 refused_shown seen watch command input refusal (Err e) refuses reply = record { reply = tt; watched = tt; front = inl refl }
 refused_shown seen watch command input refusal (Ok r) refuses reply =
     record { reply = refused_reply command input refusal (Ok r) refuses reply; watched = rw reply.refused refl; front = tt }
+
+-- nor is it shown anything by a command that shows no boards
+pub shows_none : (seen : Option (List Glance)) → (glances : List Glance) × (glances ≡ []) × Saw seen seen glances
+shows_none seen = ([], refl, saw_none seen)

@@ -18,13 +18,16 @@ use Rattle.m88_asm.proofs.Laws.{Held, accepted_source, held_by}
 use Rattle.m88_asm.specs.Inside.Held.{HoldsUnit}
 use Rattle.m88_asm.specs.Sources.{IsSourceProgram}
 use Rattle.m88_srec.specs.Accepted.{IsAccepted, whole_of}
+use Rattle.m88_isa.proofs.Laws.{program_of_image}
+use Rattle.m88_cli.proofs.Ends.{run_goes_on}
 use Rattle.m88_cli.proofs.Programs.{records_held}
 use Rattle.m88_cli.specs.Answer.{Accepts, IsAnswerToAccepted, IsOutput}
 use Rattle.m88_cli.specs.Command.{Command, exec, run}
 use Rattle.m88_cli.specs.Inside.Reply.{AnswersShown, WatchesFront}
 use Rattle.m88_cli.specs.Runs.{IsLoadedProgram, IsReport}
 use Rattle.m88_cli.specs.Settings.{Settings}
-use Rattle.m88_cli.specs.Watching.{FrontOfAccepted, SawFront, SawRun, Shown, ShownFront}
+use Rattle.m88_cli.specs.Inside.Fronts.{SawFront, SawRun}
+use Rattle.m88_cli.specs.Watching.{FrontOfAccepted, Shown, Shows, ShowsRun}
 use Rattle.m88_base.specs.declared.reply.Reply.{Reply}
 
 -- an outcome has as many events as the run
@@ -74,15 +77,14 @@ TellsOf told_of image s text =
     (p : Program) → IsProgramOf image p → p.mxm ≡ s.mxm → (o : Outcome) × IsOutcome p s.absent s.limit s.schedule o × (text ≡ told_of o)
 
 -- a command that accepts its input carries out the one program of that, which an image holds: what is told of its run
--- is what the command writes, and what is shown of it what the command shows
+-- is what the command writes, and what it shows is what the command shows
 pub record RunsBy (told_of : Outcome → List ℕ) (IsSuch : Program → Type 0) (command : Command) (input : List ℕ) (s : Settings)
     (image : ProgramImage) : Type 0 where
   pub accepted : Accepts command input
   pub held : Held IsSuch s.mxm image
   pub is_output : (text : List ℕ) → IsReport told_of IsSuch s text → IsOutput command input text
-  pub is_shown : (before after : Option (List Glance)) (p : Program) → IsSuch p → SawRun p s before after → Shown command input before after
-  pub is_front : (before after : Option (List Glance)) (p : Program) → IsSuch p → SawFront p s before after
-      → ShownFront command input before after
+  pub shows : (p : Program) (glances : List Glance) → IsSuch p → ShowsRun p s glances → Shows command input glances
+  pub is_image : IsImage image
 
 module _ (told_of : Outcome → List ℕ) (IsSuch : Program → Type 0) (command : Command) (input : List ℕ) (s : Settings) (image : ProgramImage)
     (r : RunsBy told_of IsSuch command input s image) where
@@ -106,14 +108,25 @@ module _ (told_of : Outcome → List ℕ) (IsSuch : Program → Type 0) (command
   -- and a watch was shown all of the run, or a front
   pub run_shown : (before after : Option (List Glance)) → ((p : Program) → IsProgramOf image p → p.mxm ≡ s.mxm → SawRun p s before after)
       → Shown command input before after
-  run_shown before after saw = r.is_shown before after r.held.program r.held.is_such (saw r.held.program r.held.of_image r.held.mode)
+  run_shown before after saw =
+      let h = r.held in
+      let seen = saw h.program h.of_image h.mode in
+      let glances = glances_along h.program (moment_after h.program s.absent s.limit s.schedule) seen.events in
+      (glances, r.shows h.program glances h.is_such (record { mode = seen.mode; events = seen.events; is_run = seen.is_run; glances_are = refl }), seen.saw)
 
   pub run_front : (before after : Option (List Glance)) → ((p : Program) → IsProgramOf image p → p.mxm ≡ s.mxm → SawFront p s before after)
       → FrontOfAccepted command input before after
-  run_front before after saw = record {
-    accepted = r.accepted;
-    shown = r.is_front before after r.held.program r.held.is_such (saw r.held.program r.held.of_image r.held.mode);
-  }
+  run_front before after saw =
+      let h = r.held in
+      let seen = saw h.program h.of_image h.mode in
+      let on = run_goes_on h.program s before after (program_of_image image h.program r.is_image h.of_image) seen in
+      record {
+        accepted = r.accepted;
+        glances = glances_along h.program (moment_after h.program s.absent s.limit s.schedule) seen.events;
+        others = on.0;
+        shows = r.shows h.program _ h.is_such on.1;
+        saw = seen.saw;
+      }
 
   pub run_answers : {W : Type 0} (seen : W → Option (List Glance)) (old new : W) (result : Result Reply NoMemory)
       → IfOk result (λ r. r.accepted ≡ true) → IfOk result (λ r. TellsOf told_of image s r.text.items)
@@ -135,8 +148,8 @@ runs_source source s image unit is = record {
   accepted = accepted_source source image unit;
   held = held_by s.mxm source image unit is;
   is_output = λ text report. report;
-  is_shown = λ before after p is saw. (p, is, saw);
-  is_front = λ before after p is saw. (p, is, saw);
+  shows = λ p glances such run. (p, such, run);
+  is_image = is;
 }
 
 pub runs_records : (text : List ℕ) (s : Settings) (image : ProgramImage) → IsAccepted text (whole_of image) → IsImage image
@@ -145,8 +158,8 @@ runs_records text s image written is = record {
   accepted = (whole_of image, written);
   held = records_held s.mxm text image written is;
   is_output = λ text report. report;
-  is_shown = λ before after p is saw. (p, is, saw);
-  is_front = λ before after p is saw. (p, is, saw);
+  shows = λ p glances such run. (p, such, run);
+  is_image = is;
 }
 
 -- the same of a limit that is the board's

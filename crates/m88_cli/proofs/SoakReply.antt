@@ -74,6 +74,6 @@ runs_workload number count input source image schedule source_is letters holds i
       accepted = tt;
       held = held_by false (workload_source number count) image (subst (λ s. HoldsUnit s image) source_is holds) is;
       is_output = λ text report. report;
-      is_shown = λ before after p own saw. (p, own, saw);
-      is_front = λ before after p own saw. (p, own, saw);
+      shows = λ p glances own run. (p, own, run);
+      is_image = is;
     })

@@ -13,7 +13,8 @@ use Rattle.m88_board.specs.Walks.{is_made}
 use Rattle.m88_board.specs.declared.glance.Glance.{Glance}
 use Rattle.m88_cli.proofs.MonitorWalks.{IsAlongOn}
 use Rattle.m88_cli.specs.MonitorLines.{happened_line, letter_text, event_line}
-use Rattle.m88_cli.specs.Session.{Course, MakesEach, Session, moment_on, session_on, stops_on, event_lines}
+use Rattle.m88_cli.specs.Inside.Fronts.{MakesEach}
+use Rattle.m88_cli.specs.Session.{Course, Session, moment_on, session_on, stops_on, event_lines}
 use Rattle.m88_cli.specs.Inside.SessionKept.{Carried, IsBefore, Stands, told_line}
 use Rattle.m88_cli.specs.declared.monitor.Monitor.{Monitor}
 use Rattle.m88_cli.specs.declared.monitor.tracing.Before.{Before}

@@ -1,5 +1,5 @@
 -- What a command makes of what another one wrote: laws between the commands, of every input.
-use Rattle.std.specs.Prelude.{ℕ, Bool, ◌↔◌, ◌≤◌, ◌++◌, List, Option, length}
+use Rattle.std.specs.Prelude.{ℕ, Bool, ◌↔◌, ◌≤◌, ◌++◌, List, length}
 use Rattle.m88_base.specs.Image.{IsImage, ProgramImage}
 use Rattle.m88_base.specs.Lines.{line_end}
 use Rattle.m88_event.specs.declared.letter.Letter.{Letter}
@@ -15,22 +15,21 @@ use Rattle.m88_cli.specs.Runs.{IsLoadedProgram}
 use Rattle.m88_asm.specs.Sources.{IsSourceProgram}
 use Rattle.m88_cli.specs.Settings.{Settings}
 use Rattle.m88_cli.specs.TracedSources.{trace_separator}
-use Rattle.m88_cli.specs.Watching.{Shown}
+use Rattle.m88_cli.specs.Watching.{Shows}
 
 -- a text is short enough to be an input
 abbrev pub FitsInput : List ℕ → Type 0
 FitsInput text = length text ≤ most_input
 
 -- `exec` of the records does what `run` of the source does: they carry one program out, write the same reports, and
--- show a watch the same
+-- show the same
 pub record RunAlike (source records : List ℕ) : Type 0 where
   pub programs : (p : Program) → IsSourceProgram source p ↔ IsLoadedProgram records p
   pub reports : (settings : Settings) (report : List ℕ)
       → IsAnswerToAccepted (run settings) source report
       ↔ IsAnswerToAccepted (exec settings) records report
-  pub watched : (settings : Settings) (before after : Option (List Glance))
-      → Shown (run settings) source before after
-      ↔ Shown (exec settings) records before after
+  pub shows : (settings : Settings) (glances : List Glance)
+      → Shows (run settings) source glances ↔ Shows (exec settings) records glances
 
 -- a source and the records that `build` writes of it run alike
 abbrev pub BuiltRunsAlike : Type 0

@@ -6,4 +6,5 @@ pub mod Linking
 pub mod Placing
 pub mod Drawing
 pub mod Reply
+pub mod Fronts
 pub mod SessionKept

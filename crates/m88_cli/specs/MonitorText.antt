@@ -1,12 +1,11 @@
--- What `mon` writes, and what a watch is shown: a session over the program of the source behind the script.
-use Rattle.std.specs.Prelude.{ℕ, Bool, ◌≡◌, List, Option}
+-- What `mon` writes and shows: a session over the program of the source behind the script.
+use Rattle.std.specs.Prelude.{ℕ, Bool, ◌≡◌, List}
 use Rattle.m88_isa.specs.Machine.{Program}
 use Rattle.m88_event.specs.declared.letter.Letter.{Letter}
-use Rattle.m88_board.specs.Glances.{Saw}
 use Rattle.m88_board.specs.declared.glance.Glance.{Glance}
 use Rattle.m88_asm.specs.Sources.{IsSourceProgram}
 use Rattle.m88_cli.specs.Script.{IsScript}
-use Rattle.m88_cli.specs.Session.{IsSession, IsSessionFront, course_of, opening_session}
+use Rattle.m88_cli.specs.Session.{IsSession, course_of, opening_session}
 use Rattle.m88_cli.specs.declared.script.MonitorCommand.{MonitorCommand}
 
 -- the commands of an input's script, and a program of the source behind it, in a mode
@@ -29,21 +28,3 @@ pub record IsInputSession (input : List ℕ) (absent : ℕ → Bool) (schedule :
 abbrev pub IsMonitorText : List ℕ → (ℕ → Bool) → List Letter → Bool → List ℕ → Type 0
 IsMonitorText input absent schedule mxm text =
     (glances : List Glance) × IsInputSession input absent schedule mxm text glances
-
--- a watch was shown the glances of a whole session
-pub record SawSession (input : List ℕ) (absent : ℕ → Bool) (schedule : List Letter) (mxm : Bool)
-    (before after : Option (List Glance)) : Type 0 where
-  pub text : List ℕ
-  pub glances : List Glance
-  pub session : IsInputSession input absent schedule mxm text glances
-  pub saw : Saw before after glances
-
--- or of a front of one
-pub record SawSessionFront (input : List ℕ) (absent : ℕ → Bool) (schedule : List Letter) (mxm : Bool)
-    (before after : Option (List Glance)) : Type 0 where
-  pub commands : List MonitorCommand
-  pub program : Program
-  pub scripted : Scripted input mxm commands program
-  pub glances : List Glance
-  pub is_front : IsSessionFront (course_of program absent schedule) commands opening_session glances
-  pub saw : Saw before after glances

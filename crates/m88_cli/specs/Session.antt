@@ -1,9 +1,9 @@
 -- A session with the monitor: commands that are carried out one after the other on one board, over one timeline. What
 -- each writes, and what a watch is shown.
-use Rattle.std.specs.Prelude.{ℕ, zero, suc, Bool, true, List, [], ◌∷◌, ◌++◌, ◌≡◌, ◌⊎◌, ◌+◌}
+use Rattle.std.specs.Prelude.{ℕ, zero, suc, Bool, true, List, [], ◌∷◌, ◌++◌, ◌≡◌, ◌+◌}
 use Rattle.m88_isa.specs.Address.{word_address}
 use Rattle.m88_isa.specs.Machine.{Program}
-use Rattle.m88_event.specs.Run.{IsFirst, NotBefore, answered_after, letters_from}
+use Rattle.m88_event.specs.Run.{IsFirst, answered_after, letters_from}
 use Rattle.m88_event.specs.Timeline.{Moment, is_drained, opening_moment, record_at}
 use Rattle.m88_event.specs.declared.letter.Letter.{Letter}
 use Rattle.m88_report.specs.Report.{record_lines}
@@ -61,10 +61,6 @@ stops_command c s Go = stops_on c s (is_halt s.breakpoints)
 stops_command c s Drain = λ k. is_drained c.program (answered_after c.program c.named c.limit s.moment k)
 stops_command c s _ = λ k. true
 
--- a command makes so many events at least
-abbrev pub MakesEach : Course → Session → MonitorCommand → ℕ → Type 0
-MakesEach c s command = NotBefore (stops_command c s command)
-
 -- a command makes so many events: it stops behind them, and not before
 abbrev pub Makes : Course → Session → MonitorCommand → ℕ → Type 0
 Makes c s command = IsFirst (stops_command c s command)
@@ -119,24 +115,3 @@ pub record IsThen (IsRest : Session → List ℕ → List Glance → Type 0) (c 
 abbrev pub IsSession : Course → List MonitorCommand → Session → List ℕ → List Glance → Type 0
 IsSession c [] s text glances = (text ≡ []) × (glances ≡ [])
 IsSession c (command ∷ commands) s text glances = IsThen (IsSession c commands) c s command text glances
-
--- the glances of the first events of a command, maybe not all of it
-pub record IsUnfinished (c : Course) (s : Session) (command : MonitorCommand) (glances : List Glance) : Type 0 where
-  pub events : ℕ
-  pub each : MakesEach c s command events
-  pub glances_are : glances ≡ glances_of c s command events
-
--- a command whole, and then a front of others
-pub record IsThenFront (IsRest : Session → List Glance → Type 0) (c : Course) (s : Session)
-    (command : MonitorCommand) (glances : List Glance) : Type 0 where
-  pub events : ℕ
-  pub makes : Makes c s command events
-  pub others : List Glance
-  pub is_rest : IsRest (after_command c s command events) others
-  pub glances_are : glances ≡ glances_of c s command events ++ others
-
--- the glances of a front of commands: some of them whole, and then maybe a part of one more
-abbrev pub IsSessionFront : Course → List MonitorCommand → Session → List Glance → Type 0
-IsSessionFront c [] s glances = glances ≡ []
-IsSessionFront c (command ∷ commands) s glances =
-    IsUnfinished c s command glances ⊎ IsThenFront (IsSessionFront c commands) c s command glances

@@ -24,6 +24,7 @@ use std::alloc::Global;
 
 /// The reply of a command to its whole input; the board of `run`, `exec`, `mon` and `soak` is shown to the watch after
 /// each event, and no other.
+#[tactic(auto, using(crate::proofs::Refusing::shows_none))]
 pub fn reply_to<W: Watch>(
     alloc: Global,
     command: &Command,

@@ -9,7 +9,8 @@ ghost use Rattle.m88_board.specs.declared.glance.Glance.{Glance};
 ghost use Rattle.m88_cli.specs.MonitorLines.{breakpoint_line};
 ghost use Rattle.m88_cli.specs.Limits.{session_limit};
 ghost use Rattle.m88_cli.specs.Script.{is_break, most_breaks};
-ghost use Rattle.m88_cli.specs.Session.{IsSession, IsSessionFront, course_of, opening_session};
+ghost use Rattle.m88_cli.specs.Inside.Fronts.{IsSessionFront};
+ghost use Rattle.m88_cli.specs.Session.{IsSession, course_of, opening_session};
 ghost use Rattle.m88_cli.specs.Inside.SessionKept.{Carries};
 
 use crate::script::MonitorCommand;

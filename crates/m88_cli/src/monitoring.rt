@@ -12,7 +12,8 @@ ghost use Rattle.m88_asm.specs.Inside.Held.{HoldsUnit};
 ghost use Rattle.m88_cli.specs.Monitoring.{IsRefusedMonitor};
 ghost use Rattle.m88_cli.specs.Inside.Reply.{AnswersShown};
 ghost use Rattle.m88_cli.specs.Script.{IsScript, is_break, most_breaks, most_commands, script_refusal};
-ghost use Rattle.m88_cli.specs.Session.{IsSession, IsSessionFront, course_of, opening_session};
+ghost use Rattle.m88_cli.specs.Inside.Fronts.{IsSessionFront};
+ghost use Rattle.m88_cli.specs.Session.{IsSession, course_of, opening_session};
 
 use crate::assembly::image_of_source;
 use crate::limits::SESSION_LIMIT;

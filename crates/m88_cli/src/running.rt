@@ -11,7 +11,7 @@ ghost use Rattle.m88_cli.specs.Inside.Inputs.{AreRecordsOf};
 ghost use Rattle.m88_cli.specs.Kept.{settings_of};
 ghost use Rattle.m88_cli.specs.Limits.{most_input, most_limit};
 ghost use Rattle.m88_cli.specs.Inside.Reply.{AnswersShown};
-ghost use Rattle.m88_cli.specs.Watching.{SawFront, SawRun};
+ghost use Rattle.m88_cli.specs.Inside.Fronts.{SawFront, SawRun};
 ghost use Rattle.m88_report.specs.Report.{report_of};
 
 use crate::assembly::image_of_source;

@@ -9,7 +9,8 @@ use Rattle.m88_board.specs.Glances.{Saw}
 use Rattle.m88_board.specs.Moves.{IsAt}
 use Rattle.m88_board.specs.declared.glance.Glance.{Glance}
 use Rattle.m88_cli.specs.Script.{is_break}
-use Rattle.m88_cli.specs.Session.{Course, Makes, MakesEach, Session, after_command, glances_of, text_of_command}
+use Rattle.m88_cli.specs.Inside.Fronts.{MakesEach}
+use Rattle.m88_cli.specs.Session.{Course, Makes, Session, after_command, glances_of, text_of_command}
 use Rattle.m88_cli.specs.MonitorLines.{happened_line, letter_text}
 use Rattle.m88_cli.specs.declared.monitor.Monitor.{Monitor}
 use Rattle.m88_cli.specs.declared.monitor.tracing.Before.{Before}

@@ -20,11 +20,9 @@ session_text-requires-clause-breaks g c =
 pub returns-in_err-text : goal.returns-in_err-text
 returns-in_err-text g c =
     let found = rw c.in-Ok.is at c.in_ok-parts.ensures in
-    answers_none c.from_residual-in_err-text.result (search rules) (inr (record {
-      accepted = accepted_input c.args.input.now c.in-Ok.parts.0.items found.0 found.1 c.in-Ok.parts.1 found.2 found.3;
-      shown = front_of_input c.args.input.now (absent_in c.args.absent.now) c.args.schedule.now c.args.mxm c.as_slice.result.now found.0
-          found.1 c.in-Ok.parts.1 _ _ (rw c.as_slice.ensures.value found.2) found.3 c.session_text.ensures.image c.in_err-text.ensures.front;
-    }))
+    answers_none c.from_residual-in_err-text.result (search rules)
+    (inr (front_of_input c.args.input.now (absent_in c.args.absent.now) c.args.schedule.now c.args.mxm c.as_slice.result.now found.0
+    found.1 c.in-Ok.parts.1 _ _ (rw c.as_slice.ensures.value found.2) found.3 c.session_text.ensures.image c.in_err-text.ensures.front))
 
 pub returns : goal.returns
 returns g c =
