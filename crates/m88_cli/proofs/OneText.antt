@@ -4,9 +4,9 @@ use Rattle.m88_asm.proofs.Laws.{holds_of_same, one_image_of, one_list, one_sourc
 use Rattle.m88_asm.specs.Objects.{objects_of}
 use Rattle.m88_asm.specs.Several.{AreSourcePrograms, PlacedSource}
 use Rattle.m88_asm.specs.Sources.{IsSourceProgram}
-use Rattle.m88_disasm.proofs.OneListing.{one_listing}
+use Rattle.m88_disasm.proofs.Laws.{one_listing}
 use Rattle.m88_disasm.specs.Listing.{IsImageListing}
-use Rattle.m88_emul.proofs.Walks.{one_outcome as one_extended_outcome}
+use Rattle.m88_emul.proofs.Laws.{one_extended_outcome}
 use Rattle.m88_event.proofs.Laws.{one_outcome}
 use Rattle.m88_event.specs.Run.{IsOutcome}
 use Rattle.m88_event.specs.declared.outcome.Outcome.{Outcome}
@@ -16,7 +16,7 @@ use Rattle.m88_parse.proofs.Laws.{one_source_verdict}
 use Rattle.m88_parse.specs.declared.unit.Unit.{Unit as Source}
 use Rattle.m88_report.specs.Report.{count_line, report_of}
 use Rattle.m88_srec.specs.Written.{srec_text}
-use Rattle.m88_tasks.proofs.Ending.{shared_only}
+use Rattle.m88_tasks.proofs.Laws.{shared_only}
 use Rattle.m88_tasks.specs.Shared.{IsShared}
 use Rattle.m88_cli.specs.Answer.{IsOutput}
 use Rattle.m88_cli.specs.Command.{Command, run, exec, asm, link, build, dis, mon, soak, share, emu, page, trace, check}

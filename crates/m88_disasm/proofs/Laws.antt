@@ -1,6 +1,7 @@
 -- The laws of listings and of the texts of instructions that proofs above cite, by their subject.
 
--- The listing of an image writes the image again.
+-- An image has one listing, and that writes it again.
+pub use Rattle.m88_disasm.proofs.OneListing.{one_listing}
 pub use Rattle.m88_disasm.proofs.Again.{listing_again}
 -- Instructions whose text is a short line that says them: of two registers and a number, of three registers, and of a
 -- register and a place.

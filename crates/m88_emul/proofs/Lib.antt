@@ -1,4 +1,4 @@
--- What only helps the proofs.
+-- What only helps the proofs; Laws is for those above.
 
 -- the bytes that software stores, and the transactions around them
 pub mod Mending
@@ -18,3 +18,4 @@ pub mod ByteBound
 pub mod OnBoards
 -- runs by hand
 pub mod Worked
+pub mod Laws

@@ -1,4 +1,4 @@
--- What only helps the proofs: letters, then programs that share a board.
+-- What only helps the proofs: letters, then programs that share a board; Laws is for those above.
 pub mod Letters
 pub mod Isolation
 pub mod RunAlone
@@ -15,3 +15,4 @@ pub mod Settling
 pub mod Events
 pub mod Ending
 pub mod Worked
+pub mod Laws
