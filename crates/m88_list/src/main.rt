@@ -6,7 +6,9 @@
 mod tests;
 
 use m88_base::{MOST_INPUT, Status, StdSink, StdSource};
+use m88_edge::{Keeping, Refused, Showing};
 use m88_listing::m88list;
+use memchr::memmem;
 use std::env;
 use std::process::ExitCode;
 
@@ -22,27 +24,53 @@ fn main(rt: HostRuntime) -> ExitCode {
         return ExitCode::from(NO_WORDS_STATUS);
     };
     let status = match arguments.skip(1).collect::<Vec<String>>(rt.alloc()) {
-        Ok(words) => {
-            let mut source = StdSource::new(rt.reader());
-            let mut sink = StdSink::new(rt.stdout());
-            m88list(rt.alloc(), words.as_slice(), &mut source, &mut sink)
-        }
+        Ok(words) => carry_out(&rt, words.as_slice()),
         Err(_) => Status::Memory,
     };
     tell(&rt, status);
     ExitCode::from(status.number())
 }
 
+/// The answer of the top call between standard input and standard output. Standard error tells a person where a source is
+/// refused, since the listing may go to a file.
+fn carry_out(rt: &HostRuntime, words: &[String]) -> Status {
+    let mut source = Keeping::new(rt.alloc(), StdSource::new(rt.reader()), true);
+    let mut sink = Showing::new(rt.alloc(), StdSink::new(rt.stdout()), usize::MAX);
+    let status = m88list(rt.alloc(), words, &mut source, &mut sink);
+    if status == Status::Refused {
+        tell_refusal(rt, sink.front(), source.kept());
+    }
+    status
+}
+
+/// Tells where and why a source is refused, by the line of its listing that says so, and shows the line of the source.
+fn tell_refusal<'a>(rt: &HostRuntime, listing: Option<&'a [u8]>, source: Option<&'a [u8]>) {
+    let refused = match refused_line(listing) {
+        Some(line) => Refused::of("m88list", "", line, source),
+        None => None,
+    };
+    let _ = match refused {
+        Some(refused) => eprintln!(rt; "{refused}"),
+        None => eprintln!(rt; "m88list: the source is refused; the listing says where"),
+    };
+}
+
+/// The listing from the line on that refuses its source, the only one that doesn't begin with a number or a blank.
+fn refused_line(listing: Option<&[u8]>) -> Option<&[u8]> {
+    let listing = listing?;
+    let before = memmem::find(listing, b"\nrefused ")?;
+    listing.get(before + 1..)
+}
+
 /// Tells a person what an answer means.
 fn tell(rt: &HostRuntime, status: Status) {
     let _ = match status {
-        Status::Done => Ok(()),
+        Status::Done | Status::Refused => Ok(()),
         Status::Usage => eprintln!(rt;
             "m88list {VERSION}: it takes no words and opens no file\nusage: m88list < SOURCE > LISTING"
         ),
         Status::SourceFault => eprintln!(rt; "m88list: standard input can't be read"),
         Status::SinkFault => eprintln!(rt; "m88list: standard output can't be written"),
-        Status::Refused => eprintln!(rt; "m88list: the source is refused; the listing says where"),
         Status::Memory => eprintln!(rt; "m88list: there is not enough memory"),
         Status::TooLong => { eprintln!(rt; "m88list: the source has more than {MOST_INPUT} bytes") }
     };

@@ -4,26 +4,26 @@
 
 mod advice;
 mod forms;
-mod keeping;
-mod refusal;
 #[cfg(test)]
 mod tests;
 mod usage;
 
 use crate::advice::{NO_WORDS, advice_on};
 use crate::forms::Form;
-use crate::keeping::{Keeping, Showing};
-use crate::refusal::Refused;
 use crate::usage::{NoFile, Usage};
 use m88_base::{StdSink, StdSource};
 use m88_board::Unwatched;
 use m88_cli::{Status, m88};
+use m88_edge::{Keeping, Refused, Showing};
 use std::env;
 use std::path::Path;
 use std::process::ExitCode;
 
 /// The exit status where the words of the command can't be had, which the top call never answers.
 const NO_WORDS_STATUS: u8 = 7;
+
+/// How many bytes of what was written are remembered, more than a refusal has.
+const FRONT: usize = 512;
 
 fn main(rt: HostRuntime) -> ExitCode {
     let Ok(arguments) = env::args(&rt) else {
@@ -49,7 +49,7 @@ fn carry_out(rt: &HostRuntime, words: &[String]) -> Status {
     };
     let reads_lines = Form::named(name).is_some_and(|form| form.reads_lines());
     let mut source = Keeping::new(rt.alloc(), StdSource::new(rt.reader()), reads_lines);
-    let mut sink = Showing::new(rt.alloc(), StdSink::new(rt.stdout()));
+    let mut sink = Showing::new(rt.alloc(), StdSink::new(rt.stdout()), FRONT);
     let mut watch = Unwatched::new();
     let status = m88(rt.alloc(), words, &mut source, &mut sink, &mut watch);
     match status {
@@ -83,7 +83,7 @@ fn tell_refusal<'a>(
     let Some(written) = written else {
         return;
     };
-    if let Some(refused) = Refused::of(command, written, input) {
+    if let Some(refused) = Refused::of("m88", command, written, input) {
         let _ = eprintln!(rt; "{refused}");
     }
 }

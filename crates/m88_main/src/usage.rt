@@ -1,8 +1,8 @@
 //! What a person is told where the words are no command: which of them was not understood, and what is wanted.
 
 use crate::forms::{FORMS, Form, Place};
-use crate::refusal::put_shown;
 use m88_cli::{MOST_FRAMES, MOST_LIMIT, MOST_STATEMENTS, command};
+use m88_edge::put_shown;
 use std::alloc::{AllocError, Global};
 use std::fmt;
 

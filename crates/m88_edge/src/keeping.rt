@@ -3,9 +3,6 @@
 use m88_base::{Failed, Sink, Source};
 use std::alloc::Global;
 
-/// How many bytes of what was written are remembered, more than a refusal has.
-const FRONT: usize = 512;
-
 /// A source that remembers the bytes that it gave, where that is wanted and as long as there is memory for them.
 #[derive(Drop)]
 pub struct Keeping<S> {
@@ -51,19 +48,21 @@ impl<S: Source> Source for Keeping<S> {
 #[derive(Drop)]
 pub struct Showing<K> {
     inner: K,
+    most: usize,
     front: Option<Vec<u8>>,
 }
 
 impl<K: Sink> Showing<K> {
-    /// A sink that hands its bytes to another.
-    pub fn new(alloc: Global, inner: K) -> Showing<K> {
+    /// A sink that hands its bytes to another, and remembers so many of them.
+    pub fn new(alloc: Global, inner: K, most: usize) -> Showing<K> {
         Showing {
             inner,
+            most,
             front: Some(Vec::new(alloc)),
         }
     }
 
-    /// The front of what was taken, up to twice 512 bytes; None where it was not remembered.
+    /// The front of what was taken, at most twice as many bytes as are remembered; None where it was not remembered.
     pub fn front(&self) -> Option<&[u8]> {
         match &self.front {
             Some(bytes) => Some(bytes.as_slice()),
@@ -81,8 +80,8 @@ impl<K: Sink> Sink for Showing<K> {
 
     fn write(&mut self, buf: &[u8]) -> Result<usize, Failed> {
         let count = self.inner.write(buf)?;
-        if self.front().map_or(0, |front| front.len()) < FRONT {
-            keep(&mut self.front, &buf[..count.min(FRONT)]);
+        if self.front().map_or(0, |front| front.len()) < self.most {
+            keep(&mut self.front, &buf[..count.min(self.most)]);
         }
         Ok(count)
     }

@@ -8,9 +8,10 @@ const WIDTH: usize = 100;
 
 const BEFORE: usize = 60;
 
-/// A refusal of a command's input.
+/// A refusal of the input of a program's command, or of a program without commands, whose name is then empty.
 #[derive(Clone, Copy)]
 pub struct Refused<'a> {
+    program: &'a str,
     command: &'a str,
     line: u32,
     column: u32,
@@ -21,7 +22,12 @@ pub struct Refused<'a> {
 impl<'a> Refused<'a> {
     /// The refusal that a command wrote as `refused LINE:COL REASON`, with the line of its input, where that was
     /// remembered; None where it wrote something else.
-    pub fn of(command: &'a str, written: &'a [u8], input: Option<&'a [u8]>) -> Option<Refused<'a>> {
+    pub fn of(
+        program: &'a str,
+        command: &'a str,
+        written: &'a [u8],
+        input: Option<&'a [u8]>,
+    ) -> Option<Refused<'a>> {
         let (word, rest) = split_at_byte(b' ', written)?;
         let (line, rest) = split_at_byte(b':', rest)?;
         let (column, rest) = split_at_byte(b' ', rest)?;
@@ -36,6 +42,7 @@ impl<'a> Refused<'a> {
             None => None,
         };
         Some(Refused {
+            program,
             command,
             line,
             column,
@@ -47,11 +54,11 @@ impl<'a> Refused<'a> {
 
 impl<'a> fmt::Display for Refused<'a> {
     fn fmt<W: fmt::Write>(&self, f: &mut fmt::Formatter<W>) -> fmt::Result {
-        write!(
-            f,
-            "m88 {}: refused at {}:{}: ",
-            self.command, self.line, self.column
-        )?;
+        f.write_str(self.program)?;
+        if !self.command.is_empty() {
+            write!(f, " {}", self.command)?;
+        }
+        write!(f, ": refused at {}:{}: ", self.line, self.column)?;
         put_shown(f, self.reason)?;
         match self.text {
             Some(text) => put_marked(f, text, self.column as usize),
