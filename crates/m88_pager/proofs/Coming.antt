@@ -31,6 +31,17 @@ is_held original held None page found before after h reads = tt
 is_held original held (Some pages) page found before after h reads =
     λ same. found_there (get pages page) (original page) found before after (same page ∙ h) reads
 
+-- a store that tells its pages has forgotten none
+none_found : (o : Option (List ℕ)) (before after : List ℕ) → is_some o ≡ true → Finds o false before after → ⊥
+none_found None before after h finds = cc
+none_found (Some x) before after h finds = let lost = finds.0 in cc
+
+pub not_lost : (original : ℕ → List ℕ) (held : ℕ → Bool) (told : Option PageMap) (page : ℕ) (before after bytes : List ℕ) →
+    held page ≡ true → ReadsPage told page false before after → ComesFrom original held told page bytes
+not_lost original held None page before after bytes h reads = tt
+not_lost original held (Some pages) page before after bytes h reads =
+    λ same. absurd (none_found (get pages page) before after (same page ∙ h) reads)
+
 -- bytes that were written whole
 pub all_written : (n : ℕ) (xs ys : List ℕ) → n ≡ length xs → length ys ≡ length xs → take n (ys ++ drop (length ys) xs) ≡ ys
 all_written n xs ys whole same =

@@ -1,14 +1,14 @@
 //! Frames before a store of pages.
 
-ghost use Rattle.std.specs.Prelude.{◌≡◌, ◌∷◌, [], ◌-◌, ◌≤◌, All, length, map, IfOk, IsErrOf, OnOk};
+ghost use Rattle.std.specs.Prelude.{◌∷◌, [], ◌-◌, ◌≤◌, All, length, map, IfOk, IsErrOf, OnOk};
 ghost use Rattle.std.specs.NonZero.{non_zero_usize_get};
-ghost use Rattle.m88_base.specs.Pages.{IsPage, page_bytes};
+ghost use Rattle.m88_base.specs.Pages.{IsPage};
 ghost use Rattle.m88_isa.specs.Held.{most_pending};
 ghost use Rattle.m88_isa.specs.Memory.{IsWordAccess};
 ghost use Rattle.m88_isa.specs.Triples.{access_in};
 ghost use Rattle.m88_mem.specs.DataBus.{image_bytes};
 ghost use Rattle.m88_pager.specs.Inside.Calls.{AreCarriedOn, AreEmpty, AreFlushed, HasFreed, HasLeft, HasPlace, HasPutOut, IsBrought, IsPutInFront, IsTried, IsWorked, MayCarry, MayComeIn, MayFlush, MayLeave, MayPutOut, MayWork, PutsPages, ReadsStore};
-ghost use Rattle.m88_pager.specs.Inside.Seen.{AreWithin, ComesFrom, IsWordTriple, held_by, most_counted};
+ghost use Rattle.m88_pager.specs.Inside.Seen.{AreWithin, ComesWhole, IsSpare, IsWordTriple, held_by, most_counted};
 ghost use Rattle.m88_pager.specs.Pages.{page_of};
 ghost use Rattle.m88_pager.specs.declared.paged.PageEnd.TheVariants.{StoreFault};
 
@@ -76,11 +76,11 @@ impl Frames {
         Ok(())
     }
 
-    /// The page that was used least recently leaves its frame, to the store where it is dirty.
-    fn leave<P: PageStore>(&mut self, store: &mut P) -> Result<(), PageEnd>
+    /// The page that was used least recently leaves its frame, to the store where it is dirty. Its bytes are handed on.
+    fn leave<P: PageStore>(&mut self, store: &mut P) -> Result<Vec<u8>, PageEnd>
         requires { MayLeave self.old }
-        ensures left { OnOk result (HasLeft self.old self.new (P.pages store.old)
-            (P.pages store.new)) }
+        ensures left { IfOk result (λ bytes. HasLeft bytes.items self.old self.new
+            (P.pages store.old) (P.pages store.new)) }
         ensures store { PutsPages self.old.outs self.new.outs (P.pages store.old)
             (P.pages store.new) (P.writes store.old) (P.writes store.new) (P.faults store.old)
             (P.faults store.new) result }
@@ -91,46 +91,55 @@ impl Frames {
             unreachable!();
         };
         if !frame.dirty {
-            return Ok(());
+            return Ok(frame.bytes);
         }
-        self.put_out(store, page, &frame.bytes)
+        self.put_out(store, page, &frame.bytes)?;
+        Ok(frame.bytes)
     }
 
-    /// Makes a frame free where all are taken.
-    fn make_room<P: PageStore>(&mut self, store: &mut P) -> Result<(), PageEnd>
+    /// Makes a frame free where all are taken. The bytes of the page that left it are handed on.
+    fn make_room<P: PageStore>(&mut self, store: &mut P) -> Result<Option<Vec<u8>>, PageEnd>
         requires { AreWithin most_counted self.old }
-        ensures freed { OnOk result (HasFreed self.old self.new (P.pages store.old)
+        ensures freed { IfOk result (λ spare. HasFreed spare self.old self.new (P.pages store.old)
             (P.pages store.new)) }
         ensures store { PutsPages self.old.outs self.new.outs (P.pages store.old)
             (P.pages store.new) (P.writes store.old) (P.writes store.new) (P.faults store.old)
             (P.faults store.new) result }
     {
         if self.cache.len() < self.cache.cap().get() {
-            return Ok(());
+            return Ok(None);
         }
-        self.leave(store)
+        Ok(Some(self.leave(store)?))
     }
 
-    /// The bytes of a page as the store has them, where it was written there, and else as memory has them at first.
+    /// The bytes of a page as the store has them, where it was written there, and else as memory has them at first. Those
+    /// of a page that left may be handed on, to be written over.
     fn bytes_of<P: PageStore>(
         &self,
         store: &mut P,
         image: &Image,
         page: u32,
+        spare: Option<Vec<u8>>,
     ) -> Result<Vec<u8>, PageEnd>
-        requires { IsPage page }
-        ensures size { IfOk result (λ bytes. length bytes.items ≡ page_bytes) }
-        ensures comes { IfOk result (λ bytes. ComesFrom (page_of (image_bytes image.now))
+        requires page { IsPage page }
+        requires spare { IsSpare spare }
+        ensures comes { IfOk result (λ bytes. ComesWhole (page_of (image_bytes image.now))
             (held_by self.now) (P.pages store.old) page bytes.items) }
         ensures store { ReadsStore (P.pages store.old) (P.pages store.new) (P.writes store.old)
             (P.writes store.new) (P.faults store.old) (P.faults store.new) result }
     {
-        let mut bytes = original_page(self.alloc, image, page)?;
         if !self.held.contains(&page) {
+            return Ok(original_page(self.alloc, image, page)?);
+        }
+        let mut bytes = match spare {
+            Some(bytes) => bytes,
+            None => original_page(self.alloc, image, page)?,
+        };
+        if store.read(page, bytes.as_mut_slice())? {
             return Ok(bytes);
         }
-        store.read(page, bytes.as_mut_slice())?;
-        Ok(bytes)
+        // A store that doesn't tell its pages may have forgotten this one.
+        Ok(original_page(self.alloc, image, page)?)
     }
 
     /// A page that stands in no frame comes in, clean.
@@ -149,8 +158,8 @@ impl Frames {
             (P.pages store.new) (P.writes store.old) (P.writes store.new) (P.faults store.old)
             (P.faults store.new) result }
     {
-        self.make_room(store)?;
-        let bytes = self.bytes_of(store, image, page)?;
+        let spare = self.make_room(store)?;
+        let bytes = self.bytes_of(store, image, page, spare)?;
         self.ins += 1;
         Ok(Frame {
             bytes,

@@ -1,5 +1,5 @@
 -- What a call makes of frames and of the store behind them, which tells its pages as they are before it and after it.
-use Rattle.std.specs.Prelude.{ℕ, Bool, true, false, List, [], ◌∷◌, ◌++◌, ◌==◌, All, OnOk, Option, Result, ◌≡◌, ◌≤◌, ◌<◌, ◌+◌, ◌-◌, ◌^◌, Some, None, length, map, nat_eq, option_map, take, if◌then◌else◌}
+use Rattle.std.specs.Prelude.{ℕ, Bool, Vec, true, false, List, [], ◌∷◌, ◌++◌, ◌==◌, All, OnOk, Option, Result, ◌≡◌, ◌≤◌, ◌<◌, ◌+◌, ◌-◌, ◌^◌, Some, None, length, map, nat_eq, option_map, take, if◌then◌else◌}
 use Rattle.std.specs.FinMap.{insert}
 use Rattle.std.specs.Map.{lookup, remove_entry}
 use Rattle.lru.specs.LruCache.{LruCache, lru_cache}
@@ -10,7 +10,7 @@ use Rattle.m88_isa.specs.declared.planned.Access.{Access}
 use Rattle.m88_pager.specs.Ends.{EndsByCount, UsesStore}
 use Rattle.m88_pager.specs.Frames.{brought, dirty_count, with_room, without_last}
 use Rattle.m88_pager.specs.Inside.Bytes.{AreWords, in_bytes}
-use Rattle.m88_pager.specs.Inside.Seen.{AreCarried, IsWholePage, AreWithin, StillStands, held_by, kept, most_counted, with_mark, seen_of, seen_with}
+use Rattle.m88_pager.specs.Inside.Seen.{AreCarried, IsSpare, IsWholePage, AreWithin, StillStands, held_by, kept, most_counted, with_mark, seen_of, seen_with}
 use Rattle.m88_pager.specs.Pages.{page_of}
 use Rattle.m88_pager.specs.Store.{IsPageOf, PageMap}
 use Rattle.m88_pager.specs.declared.frames.Frame.{Frame}
@@ -89,16 +89,18 @@ pub record HasPutOut (page : ℕ) (bytes : List ℕ) (f g : Frames) (told told' 
   pub ins : g.ins ≡ f.ins
   pub cache : g.cache ≡ f.cache
 
--- the page that was used least recently left its frame, to the store where it was dirty
-pub record HasLeft (f g : Frames) (told told' : Option PageMap) : Type 0 where
+-- the page that was used least recently left its frame, to the store where it was dirty; its bytes are handed on
+pub record HasLeft (bytes : List ℕ) (f g : Frames) (told told' : Option PageMap) : Type 0 where
+  pub size : length bytes ≡ page_bytes
   pub left : g.cache.entries ≡ take (length f.cache.entries - 1) f.cache.entries
   pub counts : seen_of g ≡ without_last (seen_of f)
   pub cap : g.cache.cap ≡ f.cache.cap
   pub stands : (original : ℕ → List ℕ) → StillStands original (held_by f) f.cache.entries told
       (held_by g) g.cache.entries told'
 
--- a frame is free, for which a page left where all were taken
-pub record HasFreed (f g : Frames) (told told' : Option PageMap) : Type 0 where
+-- a frame is free, for which a page left where all were taken, whose bytes are handed on
+pub record HasFreed {A : Type 0} (spare : Option (Vec ℕ A)) (f g : Frames) (told told' : Option PageMap) : Type 0 where
+  pub size : IsSpare spare
   pub room : length g.cache.entries < g.cache.cap
   pub left : g.cache.entries ≡ kept f.cache.cap f.cache.entries
   pub counts : seen_of g ≡ with_room f.cache.cap (seen_of f)

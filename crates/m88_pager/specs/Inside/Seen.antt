@@ -1,8 +1,9 @@
 -- Frames as their definition has them, and what holds of them after some transactions.
-use Rattle.std.specs.Prelude.{ℕ, Bool, List, ◌∷◌, Option, Some, None, All, ◌≡◌, ◌≤◌, ◌-◌, ◌^◌, is_some, length, map, nat_lt, take, if◌then◌else◌}
+use Rattle.std.specs.Prelude.{ℕ, Bool, IfSome, List, Vec, ◌∷◌, Option, Some, None, All, ◌≡◌, ◌≤◌, ◌-◌, ◌^◌, is_some, length, map, nat_lt, take, if◌then◌else◌}
 use Rattle.std.specs.BTreeSet.{contains}
 use Rattle.std.specs.FinMap.{get}
 use Rattle.std.specs.Ordering.{nat_cmp}
+use Rattle.m88_base.specs.Pages.{page_bytes}
 use Rattle.m88_isa.specs.Bus.{bus_after_all, in_words}
 use Rattle.m88_isa.specs.Lanes.{AreBytes}
 use Rattle.m88_isa.specs.Memory.{IsWordAccess}
@@ -59,6 +60,16 @@ abbrev pub ComesFrom : (ℕ → List ℕ) → (ℕ → Bool) → Option PageMap 
 ComesFrom original held None page bytes = Unit {0}
 ComesFrom original held (Some pages) page bytes =
     ((q : ℕ) → is_some (get pages q) ≡ held q) → bytes ≡ behind original pages page
+
+-- they are, and are as many as a page has
+pub record ComesWhole (original : ℕ → List ℕ) (held : ℕ → Bool) (told : Option PageMap) (page : ℕ) (bytes : List ℕ) :
+    Type 0 where
+  pub size : length bytes ≡ page_bytes
+  pub comes : ComesFrom original held told page bytes
+
+-- bytes that are handed on are as many as a page has
+abbrev pub IsSpare : {A : Type 0} → Option (Vec ℕ A) → Type 0
+IsSpare spare = IfSome spare (λ bytes. length bytes.items ≡ page_bytes)
 
 -- some transactions are carried out in the frames: these are as their definition says, and with the store behind them
 -- they stand for memory after the transactions

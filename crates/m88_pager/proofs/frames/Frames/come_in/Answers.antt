@@ -14,7 +14,7 @@ use Rattle.m88_pager.proofs.frames.Frames.come_in.Goals as goal
 
 pub returns-clause-place : goal.returns-clause-place
 returns-clause-place g c =
-    let freed = c.in_ok-make_room.ensures.freed in
+    let freed = c.in_ok-spare.ensures.freed in
     record {
       room = freed.room;
       apart =
@@ -27,7 +27,7 @@ returns-clause-brought g c =
     let old = c.args.self.now in
     let page = c.args.page in
     let f = c.make_room.new.self in
-    let freed = c.in_ok-make_room.ensures.freed in
+    let freed = c.in_ok-spare.ensures.freed in
     let original = page_of (image_bytes c.args.image.now) in
     let told = g.P.PageStore.pages c.make_room.new.store in
     let frame : Frame = record { bytes = c.in_ok-bytes.bytes; dirty = false } in
@@ -37,13 +37,13 @@ returns-clause-brought g c =
     let come : seen_with page frame (record f { ins = f.ins + 1 }) ≡ brought_as old.cache.cap page None (seen_of old) =
     come_brought old.cache.cap page (seen_of f) (seen_of old) freed.counts in
     record {
-      whole = record { number = c.requires.page; size = c.in_ok-bytes.ensures.size };
+      whole = record { number = c.requires.page; size = c.in_ok-bytes.ensures.comes.size };
       others_whole = subst (All IsWholePage) (sym freed.left) (whole_kept old.cache.cap old.cache.entries c.requires.may.within.whole);
       counts = come ∙ come_seen old.cache.cap page old.cache.entries old.ins old.outs c.requires.may.apart;
       cap = freed.cap;
       stands = λ memory written s.
           subst (λ (now : Option PageMap). StandWhereTold original memory written (held_by f) ((page, frame) ∷ f.cache.entries) now)
           (sym c.in_ok-bytes.ensures.store.same)
-          (come_told original memory written (held_by f) f.cache.entries page frame told apart refl c.in_ok-bytes.ensures.comes
+          (come_told original memory written (held_by f) f.cache.entries page frame told apart refl c.in_ok-bytes.ensures.comes.comes
           (freed.stands original memory written s));
     }

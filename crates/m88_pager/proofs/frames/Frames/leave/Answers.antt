@@ -1,7 +1,6 @@
 -- The last frame, clean or dirty.
 use Rattle.std.specs.Prelude.{ℕ, List, Option, Some, ◌≡◌, ◌+◌, ◌-◌, length, map, option_map, take}
 use Rattle.std.proofs.Common.{arith, sym, ap, subst, ◌∙◌}
-use Rattle.std.proofs.lemmas.Result.{on_ok_weaker}
 use Rattle.std.specs.FinMap.{insert}
 use Rattle.lru.specs.LruCache.{LruCache}
 use Rattle.m88_pager.proofs.Counts.{frames_at, left_seen}
@@ -30,6 +29,7 @@ returns-then-not-frame-clause-left g c =
     let none : f.outs ≡ f.outs + one_if_dirty (Some (with_mark e)) = rw c.if-not-frame.true (omega arith) in
     let entries = ap (λ (s : LruCache ℕ Frame). s.entries) c.pop_lru.ensures.entries in
     record {
+      size = (all_at IsWholePage f.cache.entries _ e c.requires.whole (sym c.in-Some.ensures.value)).size;
       left = entries;
       counts =
           (λ i. frames_at (map with_mark (entries i)) f.ins (none i))
@@ -46,10 +46,10 @@ returns-clause-left g c =
     let told = g.P.PageStore.pages c.args.store.now in
     let e : ℕ × Frame = (c.in-Some.page, c.in-Some.frame) in
     let one : f.outs + 1 ≡ f.outs + one_if_dirty (Some (with_mark e)) = rw c.if-not-frame.false (omega arith) in
-    on_ok_weaker c.put_out.result
-    (λ out.
+    let out = c.in_ok-put_out.ensures.out in
     let entries = ap (λ (s : LruCache ℕ Frame). s.entries) (out.cache ∙ c.pop_lru.ensures.entries) in
     record {
+      size = (all_at IsWholePage f.cache.entries _ e c.requires.whole (sym c.in-Some.ensures.value)).size;
       left = entries;
       counts =
           (λ i. frames_at (map with_mark (entries i)) (out.ins i) ((out.outs ∙ one) i))
@@ -62,5 +62,4 @@ returns-clause-left g c =
           (sym (out.put ∙ ap (λ (bytes : List ℕ). option_map (λ (pages : PageMap). insert pages c.in-Some.page bytes) told) c.deref.ensures.value))
           (stands_dirty original memory written (held_by f) (held_by c.put_out.new.self) f.cache.entries e told (sym c.in-Some.ensures.value)
           c.len.ensures.valid.0 c.if-not-frame.false out.held s));
-    })
-    c.put_out.ensures.out
+    }
