@@ -5,7 +5,7 @@ use Rattle.std.proofs.Math.Path.{fun_ext}
 use Rattle.std.proofs.lemmas.Bool.{eqb-false, eqb-true}
 use Rattle.std.proofs.lemmas.Bool.Decides.{nat_tests}
 use Rattle.std.proofs.lemmas.List.Elements.{All-cons}
-use Rattle.m88_base.specs.Pages.{page_bytes, page_number}
+use Rattle.m88_base.specs.Pages.{page_number}
 use Rattle.m88_isa.proofs.Laws.{bus_of_append}
 use Rattle.m88_isa.specs.Bus.{bus_after, bus_after_all, in_words, stored}
 use Rattle.m88_isa.specs.Memory.{IsWordAccess}

@@ -1,6 +1,6 @@
 -- A page is brought to the front, from its place among the frames or from the store.
 use Rattle.std.specs.Prelude.{ℕ, zero, suc, Bool, true, false, List, [], ◌∷◌, All, Option, Some, None, ◌≡◌, ◌<◌, ◌+◌, ◌-◌, length, map, nat_eq, nat_lt, take}
-use Rattle.std.proofs.Common.{arith, length-take, refl, sym, ap, ap₂, subst, ◌∙◌}
+use Rattle.std.proofs.Common.{arith, refl, sym, ap, ap₂, subst, ◌∙◌}
 use Rattle.std.proofs.lemmas.Bool.{eqb-true}
 use Rattle.std.proofs.lemmas.Bool.Decides.{nat_tests}
 use Rattle.std.proofs.lemmas.List.{take_all}
@@ -8,7 +8,7 @@ use Rattle.std.proofs.lemmas.List.Elements.{All-cons}
 use Rattle.std.specs.Map.{lookup, lookup_entry, remove_entry, set_value}
 use Rattle.std.specs.Option.{option_map_or}
 use Rattle.lru.specs.LruCache.{LruCache, lru_cache, promoted, put_entries}
-use Rattle.m88_pager.proofs.Counts.{frames_at, lookup_marked, removed_marked, same_length}
+use Rattle.m88_pager.proofs.Counts.{frames_at, lookup_marked, removed_marked}
 use Rattle.m88_pager.proofs.Flushing.{whole_front}
 use Rattle.m88_pager.proofs.Layers.{by_test}
 use Rattle.m88_pager.proofs.Standing.{stands_come, stands_taken}

@@ -1,5 +1,5 @@
 -- The event, and the transactions that are done by it.
-use Rattle.std.specs.Prelude.{ℕ, List, ◌-◌, length, take}
+use Rattle.std.specs.Prelude.{ℕ, List, ◌-◌}
 use Rattle.std.proofs.Common.{arith, length-take, ap, subst, ◌∙◌}
 use Rattle.std.proofs.lemmas.Result.{on_ok_weaker}
 use Rattle.m88_isa.specs.Triples.{triples_of}
