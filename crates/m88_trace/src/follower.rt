@@ -50,7 +50,8 @@ impl Follower {
     /// answer is whether the program ended. Where memory runs out, both are anything.
     pub(crate) fn next_line(&mut self, number: u32, line: &mut Vec<u8>) -> Result<bool, NoMemory>
         requires { IsReady self.old }
-        ensures { IfOk result (λ ended. IsNextTraceLine number line.new.items self.old ended self.new) }
+        ensures { IfOk result (λ ended. IsNextTraceLine number line.new.items self.old ended
+            self.new) }
     {
         line.clear();
         let word = self.memory.fetch(self.pc);
