@@ -1,4 +1,5 @@
-# Completion of the words of m88 for bash, as the usage text of the program has them. Read it in a shell, by
+# Completion of the words of m88 for bash, as the usage text of the program has them: Tab runs the program that is called,
+# `m88 help`. Read it in a shell, by
 # . contrib/m88.bash, or copy it to the folder of completions, as /usr/share/bash-completion/completions/m88.
 _m88() {
   local word=${COMP_WORDS[COMP_CWORD]} line form choices=

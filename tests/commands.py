@@ -24,4 +24,4 @@ def forms():
     rows = re.findall(r'^    Form\("(\w+)", &(\w+|\[\]), Input::(\w+)\),$', text, re.M)
     if not rows or len(rows) != int(re.search(r"const FORMS: \[Form; (\d+)\]", text).group(1)):
         raise ValueError("not every row of the table is understood")
-    return {name: Form([SHOWN.get(place, place.upper()) for place in lists.get(places, [])], given) for name, places, given in rows}
+    return {name: Form([SHOWN.get(place, place.upper()) for place in ([] if places == "[]" else lists[places])], given) for name, places, given in rows}
