@@ -1,4 +1,5 @@
-//! How each command is called: its name, the words after it, and what it reads. No other place in the code lists them.
+//! How each command is called: its name, the words after it, and what it reads. What a person is told goes by it; what is
+//! taken is for `m88_cli::command` to say.
 
 use std::fmt;
 
