@@ -147,8 +147,6 @@ impl Board {
 
     /// The next instruction in its turn, which loads or stores or does both at a byte address, or waits for room or
     /// until nothing is pending.
-    // Not inlined, so that no place for its accesses is made where an instruction makes none.
-    #[inline(never)]
     fn access(
         &mut self,
         instr: &Instr,
