@@ -9,7 +9,7 @@ use Rattle.m88_report.specs.Report.{report_of}
 use Rattle.m88_cli.specs.Answer.{IsAnswerToAccepted}
 use Rattle.m88_cli.specs.Bridge.{BuiltRunsAlike, FitsInput}
 use Rattle.m88_cli.specs.Command.{build}
-use Rattle.m88_cli.specs.Runs.{IsLoadedProgram, IsReport}
+use Rattle.m88_cli.specs.Answer.Runs.{IsLoadedProgram, IsReport}
 use Rattle.m88_asm.specs.Sources.{IsSourceProgram}
 use Rattle.m88_cli.specs.Settings.{Settings}
 use Rattle.m88_cli.proofs.Linked.{readable}

@@ -16,7 +16,7 @@ use Rattle.m88_trace.proofs.Laws.{run_trace_lines}
 use Rattle.m88_asm.specs.Sources.{IsProgramSource}
 use Rattle.m88_cli.specs.Bridge.{TracedIsChecked, with_trace}
 use Rattle.m88_cli.specs.TracedSources.{HasTrace, trace_separator}
-use Rattle.m88_cli.specs.Traces.{IsTraceText}
+use Rattle.m88_cli.specs.Answer.Traces.{IsTraceText}
 
 -- no operation is called `trace`, so no source that has a unit has a line `trace`
 unread : (number : ℕ) → (fault : ParseFault) × (row_of_line number trace_separator ≡ Err fault)

@@ -17,12 +17,12 @@ use Rattle.m88_board.specs.declared.walk.Walk.{Walk}
 use Rattle.m88_cli.proofs.MonitorWalks.{each_none}
 use Rattle.m88_cli.proofs.Reporting.{no_glance}
 use Rattle.m88_cli.specs.Limits.{session_limit}
-use Rattle.m88_cli.specs.MonitorLines.{counts_text}
+use Rattle.m88_cli.specs.Answer.MonitorLines.{counts_text}
 use Rattle.m88_cli.specs.Script.{is_break, most_breaks}
-use Rattle.m88_cli.specs.Session.{Course, IsSession, Session, after_command, course_of, glances_of, moments_of, opening_session, stops_command, text_of_command}
+use Rattle.m88_cli.specs.Answer.Session.{Course, IsSession, Session, after_command, course_of, glances_of, moments_of, opening_session, stops_command, text_of_command}
 use Rattle.m88_cli.specs.Inside.Fronts.{IsSessionFront}
-use Rattle.m88_cli.specs.Inside.SessionKept.{Broke, Carried, Carries, Stands, Went}
-use Rattle.m88_cli.specs.declared.monitor.Monitor.{Monitor}
+use Rattle.m88_cli.specs.Inside.SessionKept.{Broke, Carried, Carries, StandsAt, Went}
+use Rattle.m88_cli.specs.declared.commands.monitor.Monitor.{Monitor}
 use Rattle.m88_cli.specs.declared.script.MonitorCommand.{MonitorCommand}
 use Rattle.m88_cli.specs.declared.script.MonitorCommand.TheVariants.{Break}
 
@@ -35,8 +35,8 @@ saw_nothing c s command seen =
 pub carries_still : {T E : Type 0} (command : MonitorCommand) (seen : Option (List Glance)) (old new : Monitor) (text more : List ℕ)
     (r : Result T E) → length new.breakpoints.items ≡ length old.breakpoints.items + count_by is_break (command ∷ []) →
     ((c : Course) (s : Session) → stops_command c s command 0 ≡ true) →
-    OnOk r ((c : Course) (s : Session) → Stands c s old
-    → Stands c (after_command c s command 0) new × (more ≡ text ++ text_of_command c s command 0)) →
+    OnOk r ((c : Course) (s : Session) → StandsAt c s old
+    → StandsAt c (after_command c s command 0) new × (more ≡ text ++ text_of_command c s command 0)) →
     Carries command seen seen old new text more r
 carries_still command seen old new text more (Ok x) set none shown = record {
   set = set;
@@ -62,7 +62,7 @@ pub carries_counts : {T E : Type 0} (command : MonitorCommand) (before after : O
     (text more : List ℕ) (r : Result T E) →
     length new.breakpoints.items ≡ length old.breakpoints.items + count_by is_break (command ∷ []) →
     ((c : Course) (s : Session) (k : ℕ) → text_of_command c s command k ≡ counts_text c.program (after_command c s command k).moment) →
-    ((c : Course) (s : Session) → Stands c s old → Went c s command before after new) →
+    ((c : Course) (s : Session) → StandsAt c s old → Went c s command before after new) →
     OnOk r ((p : Program) (named : ℕ → Bool) (m : Moment) → IsAt p named m new.walk.board.now → more ≡ text ++ counts_text p m) →
     Carries command before after old new text more r
 carries_counts command before after old new text more (Ok x) set counts goes told = record {
@@ -85,7 +85,7 @@ carries_counts command before after old new text more (Err e) set counts goes to
 -- and to one during which memory ran out
 pub carries_none : {T E : Type 0} (command : MonitorCommand) (before after : Option (List Glance)) (old new : Monitor)
     (text more : List ℕ) (r : Result T E) → OnOk r ⊥ →
-    ((c : Course) (s : Session) → Stands c s old → Broke c s command before after) → Carries command before after old new text more r
+    ((c : Course) (s : Session) → StandsAt c s old → Broke c s command before after) → Carries command before after old new text more r
 carries_none command before after old new text more (Ok x) none broke = absurd none
 carries_none command before after old new text more (Err e) none broke = record { set = tt; ok = tt; err = broke }
 
@@ -110,7 +110,7 @@ pub record IsCarrying (c : Course) (commands : List MonitorCommand) (start : Ses
     (before after : Option (List Glance)) (told : List ℕ) (monitor : Monitor) : Type 0 where
   pub session : Session
   pub glances : List Glance
-  pub stands : Stands c session monitor
+  pub stands : StandsAt c session monitor
   pub saw : Saw before after glances
   pub whole : (rest : List ℕ) (others : List Glance) → IsSession c (drop i commands) session rest others
       → IsSession c commands start (told ++ rest) (glances ++ others)
@@ -118,7 +118,7 @@ pub record IsCarrying (c : Course) (commands : List MonitorCommand) (start : Ses
       → IsSessionFront c commands start (glances ++ others)
 
 pub carry_start : (c : Course) (commands : List MonitorCommand) (start : Session) (seen : Option (List Glance))
-    (monitor : Monitor) → Stands c start monitor → IsCarrying c commands start 0 seen seen [] monitor
+    (monitor : Monitor) → StandsAt c start monitor → IsCarrying c commands start 0 seen seen [] monitor
 carry_start c commands start seen monitor stands = record {
   session = start;
   glances = [];
@@ -218,7 +218,7 @@ carry_broke c commands d start i before here after told monitor below carrying b
 pub stands_first : (p : Program) (named : ℕ → Bool) (letters : List Letter) (board : BoardView) (monitor : Monitor) →
     IsAt p named opening_moment board → board.limit ≡ session_limit → monitor.walk.board.now ≡ board →
     monitor.walk.schedule.now ≡ letters → monitor.walk.taken ≡ 0 → monitor.breakpoints.items ≡ [] →
-    Stands (course_of p named letters) opening_session monitor
+    StandsAt (course_of p named letters) opening_session monitor
 stands_first p named letters board monitor at limit same schedule taken none = record {
   schedule = schedule;
   limit = ap (λ (b : BoardView). b.limit) same ∙ limit;
@@ -228,8 +228,8 @@ stands_first p named letters board monitor at limit same schedule taken none = r
 }
 
 -- a breakpoint is set
-pub set_stands : (c : Course) (s : Session) (a : ℕ) (old new : Monitor) → Stands c s old → new.walk ≡ old.walk →
-    new.breakpoints.items ≡ old.breakpoints.items ++ word_address a ∷ [] → Stands c (after_command c s (Break a) 0) new
+pub set_stands : (c : Course) (s : Session) (a : ℕ) (old new : Monitor) → StandsAt c s old → new.walk ≡ old.walk →
+    new.breakpoints.items ≡ old.breakpoints.items ++ word_address a ∷ [] → StandsAt c (after_command c s (Break a) 0) new
 set_stands c s a old new stands walk set = record {
   schedule = ap (λ (w : Walk). w.schedule.now) walk ∙ stands.schedule;
   limit = ap (λ (w : Walk). w.board.now.limit) walk ∙ stands.limit;

@@ -12,7 +12,7 @@ use Rattle.m88_disasm.specs.Text.{instr_text}
 use Rattle.m88_event.specs.Letters.{letter_byte}
 use Rattle.m88_event.specs.declared.letter.Letter.{Letter}
 use Rattle.m88_cli.specs.Inside.Drawing.{after_four, statement_from, upper_half}
-use Rattle.m88_cli.specs.Workload.{draw, drawn_instruction, drawn_letter, drawn_letters, drawn_register, drawn_statement, next_seed, seed_after, workload_source}
+use Rattle.m88_cli.specs.Answer.Workload.{draw, drawn_instruction, drawn_letter, drawn_letters, drawn_register, drawn_statement, next_seed, seed_after, workload_source}
 
 -- the number before the first draw, and after one more
 pub seed_first : (number : ℕ) → seed_after number 0 ≡ number

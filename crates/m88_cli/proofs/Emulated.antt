@@ -8,7 +8,7 @@ use Rattle.m88_isa.specs.ImageProgram.{IsProgramOf}
 use Rattle.m88_isa.specs.Machine.{Program}
 use Rattle.m88_cli.specs.Answer.{IsAnswerToAccepted}
 use Rattle.m88_cli.specs.Command.{emu}
-use Rattle.m88_cli.specs.Emulation.{told_of_emulated}
+use Rattle.m88_cli.specs.Answer.Emulation.{told_of_emulated}
 use Rattle.m88_asm.specs.Inside.Held.{HoldsUnit}
 use Rattle.m88_asm.proofs.Laws.{accepted_source, holds_by_image}
 

@@ -11,10 +11,10 @@ use Rattle.m88_cli.specs.Command.{mon}
 use Rattle.m88_cli.specs.Inside.Fronts.{IsSessionFront}
 use Rattle.m88_cli.specs.Limits.{session_limit}
 use Rattle.m88_cli.specs.Monitoring.{IsMonitorInput}
-use Rattle.m88_cli.specs.MonitorText.{IsInputSession, IsMonitorText, Scripted}
+use Rattle.m88_cli.specs.Answer.MonitorText.{IsInputSession, IsMonitorText, Scripted}
 use Rattle.m88_asm.specs.Sources.{IsSourceProgram}
 use Rattle.m88_cli.specs.Script.{IsScript}
-use Rattle.m88_cli.specs.Session.{Course, IsSession, Session, course_of, moments_of, opening_session}
+use Rattle.m88_cli.specs.Answer.Session.{Course, IsSession, Session, course_of, moments_of, opening_session}
 use Rattle.m88_cli.specs.Watching.{FrontOfAccepted, Shown}
 use Rattle.m88_cli.specs.declared.script.MonitorCommand.{MonitorCommand}
 use Rattle.m88_isa.proofs.Laws.{program_of_image}

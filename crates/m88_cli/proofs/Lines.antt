@@ -10,7 +10,7 @@ use Rattle.m88_board.specs.Moves.{IsAt}
 use Rattle.m88_event.specs.Local.{register_seen}
 use Rattle.m88_report.specs.Report.{word_line}
 use Rattle.m88_board.proofs.Laws.{done_at, events_at, pending_seen, registers_seen, retired_at}
-use Rattle.m88_cli.specs.MonitorLines.{counts_line, counts_text, registers_at, words_from}
+use Rattle.m88_cli.specs.Answer.MonitorLines.{counts_line, counts_text, registers_at, words_from}
 
 -- the counts
 pub counts_seen : (p : Program) (named : ℕ → Bool) (m : Moment) (b : BoardView) (events issued done pending : ℕ) → IsAt p named m b →

@@ -15,14 +15,14 @@ use Rattle.m88_board.specs.Moves.{IsAlong, IsAt, IsStep}
 use Rattle.m88_board.specs.Walks.{is_halt, is_made, moments_from, stops_after}
 use Rattle.m88_board.specs.declared.glance.Glance.{Glance}
 use Rattle.m88_cli.specs.Inside.Fronts.{MakesEach}
-use Rattle.m88_cli.specs.Session.{Course, Session, moment_on, session_on, stops_command, stops_on}
-use Rattle.m88_cli.specs.Inside.SessionKept.{Broke, Stands, Went}
-use Rattle.m88_cli.specs.declared.monitor.Monitor.{Monitor}
+use Rattle.m88_cli.specs.Answer.Session.{Course, Session, moment_on, session_on, stops_command, stops_on}
+use Rattle.m88_cli.specs.Inside.SessionKept.{Broke, StandsAt, Went}
+use Rattle.m88_cli.specs.declared.commands.monitor.Monitor.{Monitor}
 use Rattle.m88_cli.specs.declared.script.MonitorCommand.{MonitorCommand}
 use Rattle.m88_cli.specs.declared.script.MonitorCommand.TheVariants.{Drain, Go, Step}
 
 -- what is told of a walk by where its monitor stands is told of it by where the session stands
-as_session : (c : Course) (s : Session) (m : Monitor) (P : ℕ → List Letter → ℕ → Type 0) → Stands c s m
+as_session : (c : Course) (s : Session) (m : Monitor) (P : ℕ → List Letter → ℕ → Type 0) → StandsAt c s m
     → P m.walk.board.now.limit m.walk.schedule.now m.walk.taken → P c.limit c.schedule s.taken
 as_session c s m P stands h =
     subst (P c.limit c.schedule) stands.taken
@@ -43,7 +43,7 @@ WalkedFrom c s enough before after new limit schedule taken =
     × (new.walk.taken ≡ taken + k)
 
 pub walk_before : (c : Course) (s : Session) (enough : Program → ℕ → Moment → Bool) (m : Monitor) (before after : Option (List Glance))
-    → Stands c s m → BeforeFrom c s enough before after m.walk.board.now.limit m.walk.schedule.now m.walk.taken
+    → StandsAt c s m → BeforeFrom c s enough before after m.walk.board.now.limit m.walk.schedule.now m.walk.taken
     → BeforeFrom c s enough before after c.limit c.schedule s.taken
 walk_before c s enough m before after stands made = as_session c s m (BeforeFrom c s enough before after) stands made
 
@@ -53,10 +53,10 @@ record Walked (c : Course) (s : Session) (enough : Program → ℕ → Moment �
   events : ℕ
   first : IsFirst (stops_on c s enough) events
   saw : Saw before after (glances_along c.program (moment_on c s) events)
-  stands : Stands c (session_on c s events) new
+  stands : StandsAt c (session_on c s events) new
 
 walked_on : (c : Course) (s : Session) (enough : Program → ℕ → Moment → Bool) (old new : Monitor) (before after : Option (List Glance))
-    → Stands c s old → new.breakpoints.items ≡ old.breakpoints.items → StaysOnRun old.walk new.walk
+    → StandsAt c s old → new.breakpoints.items ≡ old.breakpoints.items → StaysOnRun old.walk new.walk
     → WalkedFrom c s enough before after new old.walk.board.now.limit old.walk.schedule.now old.walk.taken
     → Walked c s enough before after new
 unfolding session_on
@@ -77,7 +77,7 @@ walked_on c s enough old new before after stands breakpoints stays walked =
 
 -- `step` and `go` are carried out by such walks
 pub step_went : (c : Course) (s : Session) (most : ℕ) (old new : Monitor) (before after : Option (List Glance))
-    → Stands c s old → new.breakpoints.items ≡ old.breakpoints.items → StaysOnRun old.walk new.walk
+    → StandsAt c s old → new.breakpoints.items ≡ old.breakpoints.items → StaysOnRun old.walk new.walk
     → WalkedFrom c s (is_made most) before after new old.walk.board.now.limit old.walk.schedule.now old.walk.taken
     → Went c s (Step most) before after new
 step_went c s most old new before after stands breakpoints stays walked =
@@ -85,7 +85,7 @@ step_went c s most old new before after stands breakpoints stays walked =
     record { events = w.events; makes = w.first; stands = w.stands; saw = w.saw }
 
 pub go_went : (c : Course) (s : Session) (addresses : List ℕ) (old new : Monitor) (before after : Option (List Glance))
-    → Stands c s old → addresses ≡ old.breakpoints.items → new.breakpoints.items ≡ old.breakpoints.items
+    → StandsAt c s old → addresses ≡ old.breakpoints.items → new.breakpoints.items ≡ old.breakpoints.items
     → StaysOnRun old.walk new.walk
     → WalkedFrom c s (is_halt addresses) before after new old.walk.board.now.limit old.walk.schedule.now old.walk.taken
     → Went c s Go before after new
@@ -99,7 +99,7 @@ go_went c s addresses old new before after stands breaks breakpoints stays walke
     }
 
 -- and `drain` by its events
-pub drain_went : (c : Course) (s : Session) (old new : Monitor) (before after : Option (List Glance)) → Stands c s old →
+pub drain_went : (c : Course) (s : Session) (old new : Monitor) (before after : Option (List Glance)) → StandsAt c s old →
     new.breakpoints.items ≡ old.breakpoints.items → StaysOnRun old.walk new.walk → new.walk.taken ≡ old.walk.taken →
     (k : ℕ) × IsDrain c.program c.named old.walk.board.now.limit s.moment k
     × IsAlong c.program c.named (answered_after c.program c.named old.walk.board.now.limit s.moment) k before after new.walk.board.now →
@@ -120,7 +120,7 @@ drain_went c s old new before after stands breakpoints stays taken drained =
       saw = own.2.saw;
     }
 
-pub drain_broke : (c : Course) (s : Session) (old : Monitor) (board : BoardView) (before after : Option (List Glance)) → Stands c s old →
+pub drain_broke : (c : Course) (s : Session) (old : Monitor) (board : BoardView) (before after : Option (List Glance)) → StandsAt c s old →
     (k : ℕ) × IsDraining c.program c.named old.walk.board.now.limit s.moment k
     × IsAlong c.program c.named (answered_after c.program c.named old.walk.board.now.limit s.moment) k before after board →
     Broke c s Drain before after
@@ -131,7 +131,7 @@ drain_broke c s old board before after stands drained =
 
 -- what holds after some events of the run's letters
 pub record IsAlongOn (c : Course) (s : Session) (k : ℕ) (before after : Option (List Glance)) (monitor : Monitor) : Type 0 where
-  pub stands : Stands c (session_on c s k) monitor
+  pub stands : StandsAt c (session_on c s k) monitor
   pub saw : Saw before after (glances_along c.program (moment_on c s) k)
 
 -- a session by how many letters were taken
@@ -143,11 +143,11 @@ unfolding session_on moment_along with_taken
 same_session c s = let none : s.taken + 0 ≡ s.taken = omega arith in ap (with_taken s) none
 
 -- at first
-pub along_start : (c : Course) (s : Session) (seen : Option (List Glance)) (monitor : Monitor) → Stands c s monitor →
+pub along_start : (c : Course) (s : Session) (seen : Option (List Glance)) (monitor : Monitor) → StandsAt c s monitor →
     IsAlongOn c s 0 seen seen monitor
 unfolding glances_along
 along_start c s seen monitor stands = record {
-  stands = subst (λ t. Stands c t monitor) (sym (same_session c s)) stands;
+  stands = subst (λ t. StandsAt c t monitor) (sym (same_session c s)) stands;
   saw = saw_none seen;
 }
 
@@ -181,14 +181,14 @@ along_next c s k before here after old new along step stays taken breakpoints =
     })
 
 -- the board stands at the session's moment
-pub at_on : (c : Course) (s : Session) (k : ℕ) (monitor : Monitor) → Stands c (session_on c s k) monitor →
+pub at_on : (c : Course) (s : Session) (k : ℕ) (monitor : Monitor) → StandsAt c (session_on c s k) monitor →
     IsAt c.program c.named (moment_on c s k) monitor.walk.board.now
 unfolding session_on
 at_on c s k monitor stands = stands.at
 
 -- the run is over where the board says so
 pub over_on : (c : Course) (s : Session) (k : ℕ) (monitor : Monitor) (result : Bool) →
-    Stands c (session_on c s k) monitor →
+    StandsAt c (session_on c s k) monitor →
     ((p : Program) (named : ℕ → Bool) (m : Moment) → IsAt p named m monitor.walk.board.now
     → result ≡ is_over p monitor.walk.board.now.limit m) → is_over c.program c.limit (moment_on c s k) ≡ result
 unfolding session_on

@@ -20,12 +20,12 @@ use Rattle.m88_tasks.proofs.Laws.{shared_only}
 use Rattle.m88_tasks.specs.Shared.{IsShared}
 use Rattle.m88_cli.specs.Answer.{IsOutput}
 use Rattle.m88_cli.specs.Command.{Command, run, exec, asm, link, build, dis, mon, soak, share, emu, page, trace, check}
-use Rattle.m88_cli.specs.Emulation.{told_of_emulated}
-use Rattle.m88_cli.specs.Paging.{told_of_paged}
-use Rattle.m88_cli.specs.Runs.{IsLoadedProgram, IsReport, workload_settings}
+use Rattle.m88_cli.specs.Answer.Emulation.{told_of_emulated}
+use Rattle.m88_cli.specs.Answer.Paging.{told_of_paged}
+use Rattle.m88_cli.specs.Answer.Runs.{IsLoadedProgram, IsReport, workload_settings}
 use Rattle.m88_cli.specs.Settings.{Settings}
-use Rattle.m88_cli.specs.Sharing.{group_of, told_of_shared}
-use Rattle.m88_cli.specs.Workload.{summary_of, workload_source}
+use Rattle.m88_cli.specs.Answer.Sharing.{group_of, told_of_shared}
+use Rattle.m88_cli.specs.Answer.Workload.{summary_of, workload_source}
 use Rattle.m88_cli.proofs.InputSessions.{one_session_text}
 use Rattle.m88_cli.proofs.Listed.{one_written}
 use Rattle.m88_cli.proofs.Paged.{one_paged}

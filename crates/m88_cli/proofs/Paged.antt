@@ -15,7 +15,7 @@ use Rattle.m88_pager.specs.declared.paged.Paged.{Paged}
 use Rattle.m88_cli.specs.Answer.{IsAnswerToAccepted}
 use Rattle.m88_cli.specs.Command.{page}
 use Rattle.m88_asm.specs.Inside.Held.{HoldsUnit}
-use Rattle.m88_cli.specs.Paging.{PagesTo, told_of_paged}
+use Rattle.m88_cli.specs.Answer.Paging.{PagesTo, told_of_paged}
 use Rattle.m88_asm.proofs.Laws.{accepted_source, holds_by_image, holds_of_same}
 
 -- a run and its counts come to one thing

@@ -7,7 +7,7 @@ use Rattle.m88_codec.proofs.Laws.{program_in, program_in_holds, program_in_mxm}
 use Rattle.m88_asm.proofs.Laws.{Held, one_at, same_program}
 use Rattle.m88_srec.proofs.Laws.{verdict_takes}
 use Rattle.m88_srec.specs.Accepted.{IsAccepted, Whole, whole_of}
-use Rattle.m88_cli.specs.Runs.{IsLoadedProgram}
+use Rattle.m88_cli.specs.Answer.Runs.{IsLoadedProgram}
 
 -- S-records have one program in a mode
 pub one_loaded_program : (text : List ℕ) (p q : Program) → IsLoadedProgram text p → IsLoadedProgram text q → p.mxm ≡ q.mxm → p ≡ q

@@ -24,7 +24,7 @@ use Rattle.m88_cli.proofs.Programs.{records_held}
 use Rattle.m88_cli.specs.Answer.{Accepts, IsAnswerToAccepted, IsOutput}
 use Rattle.m88_cli.specs.Command.{Command, exec, run}
 use Rattle.m88_cli.specs.Inside.Reply.{AnswersShown, WatchesFront}
-use Rattle.m88_cli.specs.Runs.{IsLoadedProgram, IsReport}
+use Rattle.m88_cli.specs.Answer.Runs.{IsLoadedProgram, IsReport}
 use Rattle.m88_cli.specs.Settings.{Settings}
 use Rattle.m88_cli.specs.Inside.Fronts.{SawFront, SawRun}
 use Rattle.m88_cli.specs.Watching.{FrontOfAccepted, Shown, Shows, ShowsRun}

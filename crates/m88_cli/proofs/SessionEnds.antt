@@ -9,7 +9,7 @@ use Rattle.m88_board.specs.Walks.{is_halt, is_made}
 use Rattle.m88_board.specs.declared.glance.Glance.{Glance}
 use Rattle.m88_cli.proofs.Ends.{IsSound, draining_ends, first_of, glances_go_on, no_later, sound_along, walk_ends}
 use Rattle.m88_cli.specs.Inside.Fronts.{IsSessionFront}
-use Rattle.m88_cli.specs.Session.{Course, IsSession, Makes, Session, after_command, glances_of, moment_on, moments_of, session_on, stops_command, stops_on, text_of_command}
+use Rattle.m88_cli.specs.Answer.Session.{Course, IsSession, Makes, Session, after_command, glances_of, moment_on, moments_of, session_on, stops_command, stops_on, text_of_command}
 use Rattle.m88_cli.specs.declared.script.MonitorCommand.{MonitorCommand}
 use Rattle.m88_cli.specs.declared.script.MonitorCommand.TheVariants.{Step, Go, Break, Regs, Pipe, Memory, Drain, Trace}
 

@@ -10,7 +10,7 @@ use Rattle.m88_tasks.specs.declared.shared.Shared.{Shared}
 use Rattle.m88_cli.specs.Answer.{IsAnswerToAccepted}
 use Rattle.m88_cli.specs.Command.{share}
 use Rattle.m88_cli.specs.Inside.Placing.{HoldSources}
-use Rattle.m88_cli.specs.Sharing.{group_of, no_program, told_of_shared}
+use Rattle.m88_cli.specs.Answer.Sharing.{group_of, no_program, told_of_shared}
 use Rattle.m88_asm.specs.Several.{AreSourcesBehind, PlacedSource}
 use Rattle.m88_asm.proofs.Laws.{Shares, all_programs, as_many, program_held, program_mode, programs_count, shares_by}
 

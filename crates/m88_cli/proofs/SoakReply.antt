@@ -13,9 +13,9 @@ use Rattle.m88_asm.specs.Inside.Held.{HoldsUnit}
 use Rattle.m88_asm.specs.Sources.{IsRefusedProgram, IsSourceProgram}
 use Rattle.m88_cli.specs.Command.{soak}
 use Rattle.m88_cli.specs.Limits.{most_statements}
-use Rattle.m88_cli.specs.Runs.{workload_settings}
+use Rattle.m88_cli.specs.Answer.Runs.{workload_settings}
 use Rattle.m88_cli.specs.Settings.{Settings}
-use Rattle.m88_cli.specs.Workload.{drawn_letters, seed_after, summary_of, workload_letters, workload_schedule, workload_source}
+use Rattle.m88_cli.specs.Answer.Workload.{drawn_letters, seed_after, summary_of, workload_letters, workload_schedule, workload_source}
 use Rattle.m88_cli.proofs.Drawing.{letters_behind}
 use Rattle.m88_cli.proofs.Reporting.{RunsBy}
 use Rattle.m88_cli.proofs.WorkloadSources.{workload_accepted}

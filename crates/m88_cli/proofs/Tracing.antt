@@ -12,12 +12,12 @@ use Rattle.m88_board.specs.Moves.{IsAt}
 use Rattle.m88_board.specs.Walks.{is_made}
 use Rattle.m88_board.specs.declared.glance.Glance.{Glance}
 use Rattle.m88_cli.proofs.MonitorWalks.{IsAlongOn}
-use Rattle.m88_cli.specs.MonitorLines.{happened_line, letter_text, event_line}
+use Rattle.m88_cli.specs.Answer.MonitorLines.{happened_line, letter_text, event_line}
 use Rattle.m88_cli.specs.Inside.Fronts.{MakesEach}
-use Rattle.m88_cli.specs.Session.{Course, Session, moment_on, session_on, stops_on, event_lines}
-use Rattle.m88_cli.specs.Inside.SessionKept.{Carried, IsBefore, Stands, told_line}
-use Rattle.m88_cli.specs.declared.monitor.Monitor.{Monitor}
-use Rattle.m88_cli.specs.declared.monitor.tracing.Before.{Before}
+use Rattle.m88_cli.specs.Answer.Session.{Course, Session, moment_on, session_on, stops_on, event_lines}
+use Rattle.m88_cli.specs.Inside.SessionKept.{Carried, IsBefore, StandsAt, told_line}
+use Rattle.m88_cli.specs.declared.commands.monitor.Monitor.{Monitor}
+use Rattle.m88_cli.specs.declared.commands.monitor.tracing.Before.{Before}
 use Rattle.m88_cli.specs.declared.script.MonitorCommand.TheVariants.{Trace}
 
 -- the line of an event by what was noted before it is that of the moment
@@ -43,7 +43,7 @@ none_told c s old = sym (append-nil old)
 
 -- the line of the next event
 pub one_told : (c : Course) (s : Session) (k : ℕ) (letter : Letter) (before : Before) (happened : Happened)
-    (monitor : Monitor) (old text new : List ℕ) → Stands c (session_on c s k) monitor →
+    (monitor : Monitor) (old text new : List ℕ) → StandsAt c (session_on c s k) monitor →
     letter ≡ letter_at monitor.walk.schedule.now monitor.walk.taken →
     ((p : Program) (named : ℕ → Bool) (m : Moment) → IsAt p named m monitor.walk.board.now → IsBefore p letter m before) →
     ((p : Program) (named : ℕ → Bool) (m : Moment) → IsAt p named m monitor.walk.board.now

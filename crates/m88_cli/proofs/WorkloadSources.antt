@@ -13,7 +13,7 @@ use Rattle.m88_asm.specs.Sources.{IsProgramSource}
 use Rattle.m88_disasm.proofs.Laws.{IsPlain, plain_immediate, plain_length, plain_memory, plain_registers, plain_source}
 use Rattle.m88_cli.proofs.Drawing.{seed_next}
 use Rattle.m88_cli.specs.Limits.{most_input, most_statements}
-use Rattle.m88_cli.specs.Workload.{draw, drawn_address, drawn_instruction, drawn_register, drawn_statement, seed_after, workload_source}
+use Rattle.m88_cli.specs.Answer.Workload.{draw, drawn_address, drawn_instruction, drawn_register, drawn_statement, seed_after, workload_source}
 
 -- what holds of each form holds of the one that tests choose
 by_tests : (P : Instr → Type 0) (t u v w x y : Bool) (i j k l m n o : Instr) → P i → P j → P k → P l → P m → P n → P o

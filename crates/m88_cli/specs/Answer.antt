@@ -1,20 +1,32 @@
 -- What a command does with an input: which inputs it accepts and where and why it refuses any other goes by the kind of
 -- its input, and what it writes for one that it accepts has a case for each command.
+pub mod Assembly
+pub mod Objects
+pub mod Runs
+pub mod Workload
+pub mod Sharing
+pub mod Numbered
+pub mod Emulation
+pub mod Paging
+pub mod Traces
+pub mod MonitorText
+pub mod Session
+pub mod MonitorLines
 use Rattle.std.specs.Prelude.{ℕ, ◌≡◌, ◌⊎◌, List}
-use Rattle.m88_cli.specs.Assembly.{IsObjectText, IsRecordText}
+use Rattle.m88_cli.specs.Answer.Assembly.{IsObjectText, IsRecordText}
 use Rattle.m88_cli.specs.Command.{Command, run, exec, asm, link, build, dis, mon, soak, share, emu, page, trace, check, kind_of}
-use Rattle.m88_cli.specs.Emulation.{IsEmulatedText}
+use Rattle.m88_cli.specs.Answer.Emulation.{IsEmulatedText}
 use Rattle.m88_cli.specs.Kinds.{IsAcceptedAs, IsRefusedAs}
 use Rattle.m88_cli.specs.Loading.{IsListingText}
-use Rattle.m88_cli.specs.MonitorText.{IsMonitorText}
-use Rattle.m88_cli.specs.Objects.{IsLinkedText}
+use Rattle.m88_cli.specs.Answer.MonitorText.{IsMonitorText}
+use Rattle.m88_cli.specs.Answer.Objects.{IsLinkedText}
 use Rattle.m88_base.specs.Refusal.{Refusal, refusal_line}
-use Rattle.m88_cli.specs.Runs.{IsLoadedProgram, IsReport, IsSummary}
+use Rattle.m88_cli.specs.Answer.Runs.{IsLoadedProgram, IsReport, IsSummary}
 use Rattle.m88_asm.specs.Sources.{IsSourceProgram}
-use Rattle.m88_cli.specs.Paging.{IsPagedText}
-use Rattle.m88_cli.specs.Sharing.{IsSharedText}
+use Rattle.m88_cli.specs.Answer.Paging.{IsPagedText}
+use Rattle.m88_cli.specs.Answer.Sharing.{IsSharedText}
 use Rattle.m88_cli.specs.TracedSources.{IsCheckText}
-use Rattle.m88_cli.specs.Traces.{IsTraceText}
+use Rattle.m88_cli.specs.Answer.Traces.{IsTraceText}
 use Rattle.m88_report.specs.Report.{report_of}
 
 -- a command accepts an input that is accepted as one of its kind

@@ -11,7 +11,7 @@ use Rattle.m88_board.specs.declared.glance.Glance.{Glance}
 use Rattle.m88_cli.specs.Answer.{Accepts, IsAnswerToAccepted, IsAnswerToRefused}
 use Rattle.m88_cli.specs.Command.{asm, build, check, exec, link, run, dis, trace}
 use Rattle.m88_cli.specs.Limits.{most_input}
-use Rattle.m88_cli.specs.Runs.{IsLoadedProgram}
+use Rattle.m88_cli.specs.Answer.Runs.{IsLoadedProgram}
 use Rattle.m88_asm.specs.Sources.{IsSourceProgram}
 use Rattle.m88_cli.specs.Settings.{Settings}
 use Rattle.m88_cli.specs.TracedSources.{trace_separator}

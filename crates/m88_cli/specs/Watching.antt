@@ -8,11 +8,11 @@ use Rattle.m88_board.specs.Glances.{Saw, glances_along}
 use Rattle.m88_board.specs.declared.glance.Glance.{Glance}
 use Rattle.m88_cli.specs.Answer.{Accepts}
 use Rattle.m88_cli.specs.Command.{Command, run, exec, mon, soak}
-use Rattle.m88_cli.specs.MonitorText.{IsInputSession}
-use Rattle.m88_cli.specs.Runs.{IsLoadedProgram, workload_settings}
+use Rattle.m88_cli.specs.Answer.MonitorText.{IsInputSession}
+use Rattle.m88_cli.specs.Answer.Runs.{IsLoadedProgram, workload_settings}
 use Rattle.m88_asm.specs.Sources.{IsSourceProgram}
 use Rattle.m88_cli.specs.Settings.{Settings}
-use Rattle.m88_cli.specs.Workload.{workload_source}
+use Rattle.m88_cli.specs.Answer.Workload.{workload_source}
 
 -- the glances at each moment of a whole run of a program, in the mode of the settings
 pub record ShowsRun (p : Program) (s : Settings) (glances : List Glance) : Type 0 where

@@ -5,7 +5,7 @@ ghost use Rattle.m88_event.specs.declared.letter.Letter.{Letter as LetterValue};
 ghost use Rattle.m88_tasks.specs.Letters.{IsShareSchedule};
 ghost use Rattle.m88_tasks.specs.declared.letter.ShareLetter.{ShareLetter};
 ghost use Rattle.m88_cli.specs.Command.{Command as Choice, Spells};
-ghost use Rattle.m88_cli.specs.Inside.Reading.{Reads, ReadsFit};
+ghost use Rattle.m88_cli.specs.Inside.Reading.{ReadsValue, ReadsFit};
 ghost use Rattle.m88_cli.specs.Kept.{IsFit, command_of, settings_of};
 ghost use Rattle.m88_cli.specs.Limits.{most_limit};
 ghost use Rattle.m88_pager.specs.Paged.{most_frames};
@@ -66,7 +66,7 @@ fn no_more(words: &[String]) -> Option<()>
 
 /// The mode that the words behind a schedule say: `mxm` alone sets MXM, and without it MXM is clear.
 fn mode(words: &[String]) -> Option<bool>
-    ensures { Reads (λ mxm. texts words.now ≡ mode_words mxm) result }
+    ensures { ReadsValue (λ mxm. texts words.now ≡ mode_words mxm) result }
 {
     let Some((word, rest)) = first_word(words) else {
         return Some(false);

@@ -2,16 +2,16 @@
 ghost use Rattle.std.specs.Prelude.{ℕ, ◌≡◌, ◌≤◌, IfErr, IfOk, List, false, true, length};
 ghost use Rattle.std.specs.Io.KnownBytes.{Consumes, IsAtEnd};
 ghost use Rattle.m88_cli.specs.Command.{kind_of, reads_input};
-ghost use Rattle.m88_cli.specs.Inside.Inputs.{AreRecordsOf, IsKeptAs, IsMadeOf, IsReadFrom, IsRecordsRead, IsText};
+ghost use Rattle.m88_cli.specs.Inside.Inputs.{AreRecordsOf, IsKeptAs, IsMadeOf, IsReadFrom, IsRecordsRead, IsTextRead};
 ghost use Rattle.m88_base.specs.Reading.{ReadsSource};
 ghost use Rattle.m88_cli.specs.Kept.{command_of};
 ghost use Rattle.m88_cli.specs.Limits.{most_input};
+ghost use Rattle.m88_cli.specs.Loading.{srec_refusal};
 
 use crate::commands::Command;
 use crate::limits::MOST_INPUT;
-use crate::loading::unloaded;
-use m88_base::{Image, ReadEnd, Refusal, Source, read_all};
-use m88_srec::{LoadEnd, read_image};
+use m88_base::{Image, NoMemory, ReadEnd, Refusal, Source, read_all};
+use m88_srec::{LoadEnd, SrecFault, read_image};
 use std::alloc::Global;
 
 /// The whole input of a command.
@@ -28,7 +28,7 @@ pub enum Input {
 impl Input {
     /// The text of an input that was read as one.
     pub fn text(&self) -> &[u8]
-        requires { IsText self.now }
+        requires { IsTextRead self.now }
         ensures made { (input : List ℕ) → IsMadeOf self.now input → result.now ≡ input }
         ensures short { length result.now ≤ most_input }
     {
@@ -96,4 +96,12 @@ fn read_records<S: Source>(alloc: Global, source: &mut S) -> Result<Result<Image
         Err(LoadEnd::TooLong) => Err(ReadEnd::TooLong),
         Err(LoadEnd::Memory) => Err(ReadEnd::Memory),
     }
+}
+
+/// The refusal of S-records for a fault.
+fn unloaded(alloc: Global, fault: &SrecFault) -> Result<Refusal, NoMemory>
+    ensures { IfOk result (λ r. r ≡ srec_refusal fault.now) }
+{
+    let reason = fault.kind.to_string(alloc)?;
+    Ok(Refusal::new(u64::from(fault.line), 1, reason))
 }

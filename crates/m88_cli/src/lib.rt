@@ -2,8 +2,10 @@
 //! of it between a source of bytes, a sink and a watch.
 #![tactic(auto)]
 
-// The words of a command.
+// The commands, and what each makes of its input.
 mod commands;
+
+// The words of a command.
 mod grammar;
 mod limits;
 mod numbers;
@@ -11,7 +13,6 @@ mod pages;
 
 // The top call, from its words to its answer.
 mod input;
-mod job;
 mod program;
 mod reply;
 
@@ -19,27 +20,6 @@ mod reply;
 mod script;
 mod script_line;
 mod script_lines;
-
-// What commands make of a source, of one with a trace, of several, of objects, of S-records, of a script, and of a
-// number.
-mod assembly;
-mod emulation;
-mod loading;
-mod monitoring;
-mod numbered;
-mod objects;
-mod paging;
-mod running;
-mod sharing;
-mod soaking;
-mod source_fault;
-mod sources;
-mod summary;
-mod traces;
-mod workload;
-
-// What the monitor makes of the commands of a script.
-mod monitor;
 
 pub use commands::Command;
 pub use grammar::command;

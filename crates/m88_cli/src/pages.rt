@@ -2,7 +2,7 @@
 ghost use Rattle.std.specs.Prelude.{ℕ, ◌≡◌, ◌≢◌, ◌≤◌, ◌++◌, ◌∷◌, [], All, List, IfSome, None, OnSome, Some, codes, length};
 ghost use Rattle.m88_base.specs.Pages.{IsPage};
 ghost use Rattle.m88_mem.specs.Marks.{NamesPages, absent_in};
-ghost use Rattle.m88_cli.specs.Inside.Reading.{Reads, ReadsFit};
+ghost use Rattle.m88_cli.specs.Inside.Reading.{ReadsValue, ReadsFit};
 ghost use Rattle.m88_cli.specs.Pages.{ArePageNumbers, IsAbsent, IsPageNumber, most_numbers};
 
 use crate::numbers::{decimal_number, hexadecimal_number};
@@ -64,7 +64,7 @@ fn add_number(numbers: &mut ArrayVec<u32, MOST_NUMBERS>, text: &[u8]) -> Option<
 
 /// The number of a page that a text writes.
 fn page_number(text: &[u8]) -> Option<u32>
-    ensures { Reads (IsPageNumber text.now) result }
+    ensures { ReadsValue (IsPageNumber text.now) result }
 {
     match after_0x(text) {
         Some(digits) => hexadecimal_number(5, digits, LAST_PAGE),

@@ -15,16 +15,15 @@ ghost use Rattle.m88_cli.specs.Kept.{IsFit, command_of};
 ghost use Rattle.m88_cli.specs.Limits.{most_input};
 ghost use Rattle.m88_base.specs.Refusal.{Refusal, refusal_line};
 ghost use Rattle.m88_cli.specs.Inside.Reply.{Replies, WatchesReply};
-ghost use Rattle.m88_cli.specs.Runs.{WorkloadsAreAccepted};
+ghost use Rattle.m88_cli.specs.Answer.Runs.{WorkloadsAreAccepted};
 ghost use Rattle.m88_cli.specs.Script.{HasNoScript, IsScriptOf};
 ghost use Rattle.m88_cli.specs.Status.{ShowsNothing};
 ghost use Rattle.m88_cli.specs.Watching.{FrontOfAccepted, Shown, ShownIfAccepted};
 ghost use Rattle.m88_cli.specs.Words.{texts};
 
-use crate::commands::Command;
+use crate::commands::{Command, reply_to};
 use crate::grammar::command;
 use crate::input::input_of;
-use crate::job::reply_to;
 use crate::reply::Reply;
 use m88_base::{Sink, Source, Status};
 use m88_board::Watch;

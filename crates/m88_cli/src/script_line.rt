@@ -1,7 +1,7 @@
 //! A line of a script.
 ghost use Rattle.std.specs.Prelude.{ℕ, ◌≡◌, ◌≢◌, ◌++◌, IfSome, List, None, Some};
 ghost use Rattle.m88_cli.specs.Script.{IsCount, AreMemoryOperands, WritesAddress, WritesCommand};
-ghost use Rattle.m88_cli.specs.Inside.Reading.{Reads};
+ghost use Rattle.m88_cli.specs.Inside.Reading.{ReadsValue};
 ghost use Rattle.m88_cli.specs.Inside.ScriptWords.{IsBare};
 ghost use Rattle.m88_cli.specs.declared.script.MonitorCommand.{MonitorCommand as CommandValue};
 
@@ -17,7 +17,7 @@ const MOST_WORDS: u32 = 1024;
 
 /// The command that a line writes: its words are parted by one blank, with nothing before or behind them.
 pub fn command_in(line: &[u8]) -> Option<MonitorCommand>
-    ensures { Reads (λ c. WritesCommand c line.now) result }
+    ensures { ReadsValue (λ c. WritesCommand c line.now) result }
 {
     if let Some(digits) = rest_behind(b"step ", line) {
         return count_in(digits, MOST_STEPS).map(MonitorCommand::Step);
@@ -67,7 +67,7 @@ fn rest_behind<'a>(front: &[u8], line: &'a [u8]) -> Option<&'a [u8]>
 
 /// The number from 1 to `most` that a text writes in one to seven decimal digits.
 fn count_in(text: &[u8], most: u32) -> Option<u32>
-    ensures { Reads (IsCount most text.now) result }
+    ensures { ReadsValue (IsCount most text.now) result }
 {
     let n = decimal_number(7, text, most)?;
     if n == 0 {
@@ -78,7 +78,7 @@ fn count_in(text: &[u8], most: u32) -> Option<u32>
 
 /// The address that a text writes in one to eight hexadecimal digits.
 fn place_in(text: &[u8]) -> Option<u32>
-    ensures { Reads (WritesAddress text.now) result }
+    ensures { ReadsValue (WritesAddress text.now) result }
 {
     hexadecimal_number(8, text, u32::MAX)
 }

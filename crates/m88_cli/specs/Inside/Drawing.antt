@@ -1,7 +1,7 @@
 -- What the generator of a workload makes of the number that it has.
 use Rattle.std.specs.Prelude.{ℕ, ◌/◌, ◌%◌, ◌^◌}
 use Rattle.m88_isa.specs.declared.instr.Instr.{Instr}
-use Rattle.m88_cli.specs.Workload.{drawn_instruction, drawn_register, next_seed}
+use Rattle.m88_cli.specs.Answer.Workload.{drawn_instruction, drawn_register, next_seed}
 
 -- the upper 16 bits of a number of 32 bits
 abbrev pub upper_half : ℕ → ℕ

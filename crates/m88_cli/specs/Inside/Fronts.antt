@@ -4,7 +4,7 @@ use Rattle.m88_isa.specs.Machine.{Program}
 use Rattle.m88_event.specs.Run.{IsRun, IsRunning, NotBefore, moment_after}
 use Rattle.m88_board.specs.Glances.{Saw, glances_along}
 use Rattle.m88_board.specs.declared.glance.Glance.{Glance}
-use Rattle.m88_cli.specs.Session.{Course, Makes, Session, after_command, glances_of, stops_command}
+use Rattle.m88_cli.specs.Answer.Session.{Course, Makes, Session, after_command, glances_of, stops_command}
 use Rattle.m88_cli.specs.Settings.{Settings}
 use Rattle.m88_cli.specs.declared.script.MonitorCommand.{MonitorCommand}
 

@@ -22,9 +22,9 @@ IsMadeOf (Text text) input = text.items ≡ input
 IsMadeOf (Records records) input = AreRecordsOf records input
 
 -- it is a text, which isn't too long
-abbrev pub IsText : Input → Type 0
-IsText (Text text) = length text.items ≤ most_input
-IsText _ = ⊥
+abbrev pub IsTextRead : Input → Type 0
+IsTextRead (Text text) = length text.items ≤ most_input
+IsTextRead _ = ⊥
 
 -- it is what was made of S-records
 abbrev pub IsRecordsRead : Input → Type 0
@@ -35,7 +35,7 @@ IsRecordsRead _ = ⊥
 abbrev pub IsKeptAs : InputKind → Input → Type 0
 IsKeptAs no_input input = Unit {0}
 IsKeptAs record_text input = IsRecordsRead input
-IsKeptAs _ input = IsText input
+IsKeptAs _ input = IsTextRead input
 
 -- the source gave a command its input, and it was made of that
 pub record IsReadFrom (command : Command) (before after : Option (List ℕ)) (input : Input) : Type 0 where

@@ -5,15 +5,15 @@ use Rattle.m88_cli.specs.Limits.{most_input}
 use Rattle.m88_asm.specs.Inside.Held.{HoldEach}
 use Rattle.m88_asm.specs.Several.{AreSources, PlacedSource}
 use Rattle.m88_cli.specs.Sources.{most_sources}
-use Rattle.m88_cli.specs.declared.sources.PlacedSource.{PlacedSource as Kept}
+use Rattle.m88_cli.specs.declared.commands.sources.PlacedSource.{PlacedSource as Kept}
 
 -- the source that it is
-abbrev pub placed : Kept → PlacedSource
-placed s = record { lines = s.lines; source = s.source.now }
+abbrev pub source_in : Kept → PlacedSource
+source_in s = record { lines = s.lines; source = s.source.now }
 
 -- the sources that they are
 abbrev pub all_placed : List Kept → List PlacedSource
-all_placed sources = map placed sources
+all_placed sources = map source_in sources
 
 -- it is short enough for the assembler
 abbrev pub IsShort : Kept → Type 0

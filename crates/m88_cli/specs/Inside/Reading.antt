@@ -3,7 +3,7 @@ use Rattle.std.specs.Prelude.{ℕ, ◌≡◌, ◌≤◌, List, Option, IfSome, M
 use Rattle.m88_cli.specs.Numbers.{IsShortNumber}
 
 -- a value is read of a text or of words that may say one: what is found they say, and what they say is found
-pub record Reads {T : Type 0} (Say : T → Type 0) (result : Option T) : Type 0 where
+pub record ReadsValue {T : Type 0} (Say : T → Type 0) (result : Option T) : Type 0 where
   pub found : IfSome result Say
   pub only : (said : T) → Say said → result ≡ Some said
 

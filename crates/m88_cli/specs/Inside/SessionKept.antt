@@ -10,14 +10,14 @@ use Rattle.m88_board.specs.Moves.{IsAt}
 use Rattle.m88_board.specs.declared.glance.Glance.{Glance}
 use Rattle.m88_cli.specs.Script.{is_break}
 use Rattle.m88_cli.specs.Inside.Fronts.{MakesEach}
-use Rattle.m88_cli.specs.Session.{Course, Makes, Session, after_command, glances_of, text_of_command}
-use Rattle.m88_cli.specs.MonitorLines.{happened_line, letter_text}
-use Rattle.m88_cli.specs.declared.monitor.Monitor.{Monitor}
-use Rattle.m88_cli.specs.declared.monitor.tracing.Before.{Before}
+use Rattle.m88_cli.specs.Answer.Session.{Course, Makes, Session, after_command, glances_of, text_of_command}
+use Rattle.m88_cli.specs.Answer.MonitorLines.{happened_line, letter_text}
+use Rattle.m88_cli.specs.declared.commands.monitor.Monitor.{Monitor}
+use Rattle.m88_cli.specs.declared.commands.monitor.tracing.Before.{Before}
 use Rattle.m88_cli.specs.declared.script.MonitorCommand.{MonitorCommand}
 
 -- the monitor stands where a session of a course stands
-pub record Stands (c : Course) (s : Session) (monitor : Monitor) : Type 0 where
+pub record StandsAt (c : Course) (s : Session) (monitor : Monitor) : Type 0 where
   pub schedule : monitor.walk.schedule.now ≡ c.schedule
   pub limit : monitor.walk.board.now.limit ≡ c.limit
   pub at : IsAt c.program c.named s.moment monitor.walk.board.now
@@ -29,7 +29,7 @@ pub record Went (c : Course) (s : Session) (command : MonitorCommand)
     (before after : Option (List Glance)) (monitor : Monitor) : Type 0 where
   pub events : ℕ
   pub makes : Makes c s command events
-  pub stands : Stands c (after_command c s command events) monitor
+  pub stands : StandsAt c (after_command c s command events) monitor
   pub saw : Saw before after (glances_of c s command events)
 
 -- and wrote its text
@@ -51,9 +51,9 @@ pub record Carries {T E : Type 0} (command : MonitorCommand) (before after : Opt
     (text text' : List ℕ) (result : Result T E) : Type 0 where
   pub set : OnOk result (length new.breakpoints.items
       ≡ length old.breakpoints.items + count_by is_break (command ∷ []))
-  pub ok : OnOk result ((c : Course) (s : Session) → Stands c s old
+  pub ok : OnOk result ((c : Course) (s : Session) → StandsAt c s old
       → Carried c s command before after text text' new)
-  pub err : OnErr result ((c : Course) (s : Session) → Stands c s old → Broke c s command before after)
+  pub err : OnErr result ((c : Course) (s : Session) → StandsAt c s old → Broke c s command before after)
 
 -- what is noted before the event of a letter is so at a moment
 pub record IsBefore (p : Program) (letter : Letter) (m : Moment) (before : Before) : Type 0 where

@@ -1,0 +1,19 @@
+-- The text of the objects answers the source, and so does the line that refuses it.
+use Rattle.std.proofs.Common.{ap, ◌∙◌}
+use Rattle.m88_link.specs.ObjectText.{objects_text}
+use Rattle.m88_cli.specs.Command.{asm}
+use Rattle.m88_cli.proofs.Linked.{assembled}
+use Rattle.m88_cli.proofs.Refusing.{refused_reply}
+use Rattle.m88_cli.proofs.commands.assembly.assemble_source.Goals as goal
+
+pub returns-in-Err : goal.returns-in-Err
+returns-in-Err c =
+    refused_reply asm c.args.source.now c.in-Err.refusal c.refuse.result
+    (rw c.in-Err.is at c.in_ok-objects.ensures.objects)
+    c.refuse.ensures
+
+pub returns : goal.returns
+returns c =
+    assembled c.args.source.now c.in_ok-text.text.items c.in-Ok.objects.items
+    (rw c.in-Ok.is at c.in_ok-objects.ensures.objects)
+    (c.in_ok-text.ensures.text ∙ ap objects_text c.as_slice.ensures.value)

@@ -1,0 +1,25 @@
+-- The listing of the image answers the records, and so does the line that refuses them.
+use Rattle.std.proofs.Common.{arith, subst}
+use Rattle.m88_base.proofs.Laws.{few_parts}
+use Rattle.m88_cli.specs.Command.{dis}
+use Rattle.m88_cli.specs.Inside.Inputs.{AreRecordsOf}
+use Rattle.m88_cli.proofs.Listed.{listed}
+use Rattle.m88_cli.proofs.Refusing.{refused_reply}
+use Rattle.m88_cli.proofs.commands.loading.list_records.Goals as goal
+
+pub returns-in-Err : goal.returns-in-Err
+returns-in-Err c = λ text are.
+    let first = subst (λ records. AreRecordsOf records text) c.in-Err.is are in
+    refused_reply dis text c.in-Err.refusal c.refuse.result first c.refuse.ensures
+
+pub returns : goal.returns
+returns c = λ text are.
+    let written = subst (λ records. AreRecordsOf records text) c.in-Ok.is are in
+    listed text c.in_ok-text.text.items c.in-Ok.image c.part_count.ensures.image written
+    c.in_ok-text.ensures.value
+
+-- each part has a byte
+pub prove-unreachable-requires : goal.prove-unreachable-requires
+prove-unreachable-requires c =
+    let few = few_parts _ c.part_count.ensures.image in
+    absurd (omega (arith, few, c.if-prove.true, c.part_count.ensures.value, c.len.ensures.value))

@@ -1,0 +1,81 @@
+//! What `emu` makes of a source: a run with a monitor that emulates, its report, and what was emulated.
+ghost use Rattle.std.specs.Prelude.{◌≡◌, ◌++◌, ◌≤◌, IfOk, OnOk, length};
+ghost use Rattle.std.specs.List.{enumerate_from, flat_map};
+ghost use Rattle.m88_mem.specs.Marks.{NamesPages, absent_in};
+ghost use Rattle.m88_cli.specs.Command.{emu};
+ghost use Rattle.m88_cli.specs.Answer.Emulation.{emulation_line, told_of_emulated};
+ghost use Rattle.m88_cli.specs.Inside.Reply.{Replies};
+ghost use Rattle.m88_cli.specs.Limits.{most_input, most_limit};
+
+use crate::commands::assembly::image_of_source;
+use crate::commands::numbered::push_numbered_event;
+use crate::reply::{Reply, refuse};
+use m88_base::{Absent, NoMemory, push_decimal, push_hex8};
+use m88_emul::{EmulOutcome, Emulation};
+use m88_event::Schedule;
+use m88_report::{push_count, report};
+use std::alloc::{AllocError, Global};
+
+/// The reply of `emu` to a source.
+pub fn emulate_source(
+    alloc: Global,
+    limit: u32,
+    absent: &Absent,
+    schedule: &Schedule,
+    source: &[u8],
+) -> Result<Reply, NoMemory>
+    requires size { length source.now ≤ most_input }
+    requires limit { limit ≤ most_limit }
+    requires pages { NamesPages absent.now }
+    ensures { IfOk result (Replies (emu limit (absent_in absent.now) schedule.now) source.now) }
+{
+    let image = match image_of_source(alloc, 0, source)? {
+        Ok(image) => image,
+        Err(refusal) => return refuse(alloc, &refusal),
+    };
+    let outcome = m88_emul::run(alloc, &image, absent, limit, schedule)?;
+    let text = emulated_text(alloc, &outcome)?;
+    Ok(Reply {
+        accepted: true,
+        text,
+    })
+}
+
+/// What is told of a run with emulation.
+#[tactic(auto, unfolding(crate::specs::Answer::Emulation::told_of_emulated))]
+fn emulated_text(alloc: Global, outcome: &EmulOutcome) -> Result<Vec<u8>, NoMemory>
+    ensures { IfOk result (λ text. text.items ≡ told_of_emulated outcome.now) }
+{
+    let mut text = report(alloc, &outcome.outcome)?;
+    let emulated = outcome.emulated.as_slice();
+    push_count(&mut text, b"emulated", emulated.len() as u64)?;
+    push_emulations(&mut text, emulated)?;
+    Ok(text)
+}
+
+/// Appends the lines of emulations, numbered from 1.
+#[tactic(auto, using(std::proofs::lemmas::Grind::common_steps, m88_report::proofs::Laws::one_more_numbered))]
+fn push_emulations(text: &mut Vec<u8>, emulated: &[Emulation]) -> Result<(), AllocError>
+    ensures { OnOk result (text.new.items ≡ text.old.items
+        ++ flat_map emulation_line (enumerate_from 1 emulated.now)) }
+{
+    for (index, emulation) in emulated.iter().enumerate() {
+        push_emulation(text, index as u64 + 1, *emulation)?;
+    }
+    Ok(())
+}
+
+/// Appends the line of an emulation with its number.
+#[tactic(auto, unfolding(crate::specs::Answer::Emulation::emulation_line))]
+fn push_emulation(text: &mut Vec<u8>, number: u64, emulation: Emulation) -> Result<(), AllocError>
+    ensures { OnOk result (text.new.items ≡ text.old.items
+        ++ emulation_line (number, emulation)) }
+{
+    push_numbered_event(text, b"emulate", number, emulation.event)?;
+    text.extend_from_slice(b" at ")?;
+    push_hex8(text, emulation.at)?;
+    text.extend_from_slice(b" vector ")?;
+    push_decimal(text, u64::from(emulation.vector))?;
+    text.push(b'\n')?;
+    Ok(())
+}

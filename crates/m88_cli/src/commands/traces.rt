@@ -1,0 +1,82 @@
+//! What `trace` makes of a source, and `check` of a source with lines of a trace behind it.
+ghost use Rattle.std.specs.Prelude.{◌≡◌, ◌+◌, ◌≤◌, IfOk, length};
+ghost use Rattle.m88_mem.specs.Marks.{NamesPages, absent_in};
+ghost use Rattle.m88_cli.specs.Command.{check, trace};
+ghost use Rattle.m88_cli.specs.Inside.Reply.{Replies};
+ghost use Rattle.m88_cli.specs.Limits.{most_input, most_limit};
+ghost use Rattle.m88_cli.specs.TracedSources.{differs_refusal, no_trace_refusal};
+
+use crate::commands::assembly::image_of_source;
+use crate::reply::{Reply, refuse};
+use m88_base::{Absent, NoMemory, Refusal, parted_at};
+use m88_event::Schedule;
+use m88_report::push_count;
+use m88_trace::{TraceFault, check_trace, trace_run};
+use std::alloc::Global;
+
+/// The reply of `trace` to a source.
+pub fn trace_source(
+    alloc: Global,
+    limit: u32,
+    absent: &Absent,
+    schedule: &Schedule,
+    source: &[u8],
+) -> Result<Reply, NoMemory>
+    requires size { length source.now ≤ most_input }
+    requires limit { limit ≤ most_limit }
+    requires pages { NamesPages absent.now }
+    ensures { IfOk result (Replies (trace limit (absent_in absent.now) schedule.now) source.now) }
+{
+    let image = match image_of_source(alloc, 0, source)? {
+        Ok(image) => image,
+        Err(refusal) => return refuse(alloc, &refusal),
+    };
+    let text = trace_run(alloc, &image, absent, limit, schedule)?;
+    Ok(Reply {
+        accepted: true,
+        text,
+    })
+}
+
+/// The reply of `check` to an input.
+pub fn check_source(alloc: Global, input: &[u8]) -> Result<Reply, NoMemory>
+    requires { length input.now ≤ most_input }
+    ensures { IfOk result (Replies check input.now) }
+{
+    let parted = match parted_at(input, b"trace") {
+        Ok(parted) => parted,
+        Err(unparted) => return refuse(alloc, &no_trace(alloc, unparted.lines)?),
+    };
+    let image = match image_of_source(alloc, 0, parted.before)? {
+        Ok(image) => image,
+        Err(refusal) => return refuse(alloc, &refusal),
+    };
+    match check_trace(alloc, &image, parted.behind) {
+        Ok(lines) => {
+            let mut text = Vec::new(alloc);
+            push_count(&mut text, b"ok", u64::from(lines))?;
+            Ok(Reply {
+                accepted: true,
+                text,
+            })
+        }
+        Err(TraceFault::Differs { line }) => refuse(alloc, &differs(alloc, parted.lines, line)?),
+        Err(TraceFault::Memory) => Err(NoMemory),
+    }
+}
+
+/// The refusal of an input of so many lines, none of which is the line `trace`.
+fn no_trace(alloc: Global, lines: u32) -> Result<Refusal, NoMemory>
+    ensures { IfOk result (λ r. r ≡ no_trace_refusal (lines + 1)) }
+{
+    let reason = String::from_str(alloc, "no trace")?;
+    Ok(Refusal::new(u64::from(lines) + 1, 1, reason))
+}
+
+/// The refusal of a line, from 1, that isn't the trace's, behind so many lines of the input.
+fn differs(alloc: Global, lines: u32, line: u32) -> Result<Refusal, NoMemory>
+    ensures { IfOk result (λ r. r ≡ differs_refusal (lines + line)) }
+{
+    let reason = String::from_str(alloc, "differs")?;
+    Ok(Refusal::new(u64::from(lines) + u64::from(line), 1, reason))
+}
