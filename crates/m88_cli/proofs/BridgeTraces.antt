@@ -1,5 +1,5 @@
 -- What `trace` writes of a source is accepted by `check` behind that source and a line `trace`.
-use Rattle.std.proofs.Common.{◌≡◌, ℕ, Bool, ◌+◌, List, Err, length, refl}
+use Rattle.std.proofs.Common.{◌≡◌, ℕ, ◌+◌, List, Err, length, refl}
 use Rattle.m88_base.specs.Lines.{lines_of}
 use Rattle.m88_isa.specs.Inside.Letters.{begun_with}
 use Rattle.m88_isa.specs.Mnemonic.{text_of}
@@ -11,10 +11,10 @@ use Rattle.m88_parse.specs.Language.Ended.{ended}
 use Rattle.m88_parse.specs.declared.fault.ParseFault.{ParseFault}
 use Rattle.m88_parse.specs.declared.fault.ParseKind.TheVariants.{NoSuchName}
 use Rattle.m88_base.specs.Parted.{IsParted}
-use Rattle.m88_event.specs.declared.letter.Letter.{Letter}
 use Rattle.m88_trace.proofs.Laws.{run_trace_lines}
 use Rattle.m88_asm.specs.Sources.{IsProgramSource}
 use Rattle.m88_cli.specs.Bridge.{TracedIsChecked, with_trace}
+use Rattle.m88_cli.specs.Settings.{Settings}
 use Rattle.m88_cli.specs.TracedSources.{HasTrace, trace_separator}
 use Rattle.m88_cli.specs.Answer.Traces.{IsTraceText}
 
@@ -31,10 +31,9 @@ parted source text accepted = ended_parted trace_separator source text accepted.
 
 -- An ended source has the programs of the source, and it is accepted as the source is: all that goes by the unit alone
 
-traced : (source text : List ℕ) (limit : ℕ) (absent : ℕ → Bool) (schedule : List Letter) → IsProgramSource source
-    → IsTraceText source limit absent schedule text → (n : ℕ) × HasTrace (with_trace source text) n
-traced source text limit absent schedule accepted traces =
-    let lines = run_trace_lines traces.program absent limit schedule text traces.holds.0 in
+traced : (source text : List ℕ) (s : Settings) → IsProgramSource source → IsTraceText source s text → (n : ℕ) × HasTrace (with_trace source text) n
+traced source text s accepted traces =
+    let lines = run_trace_lines traces.program s.absent s.limit s.schedule text traces.holds.0 in
     let of_source = traces.of_source in (
       lines.0,
       record {
@@ -56,5 +55,4 @@ traced source text limit absent schedule accepted traces =
 
 -- what `trace` writes of a source is so many lines of the trace of the source's program, behind the line `trace`
 pub traced_is_checked : TracedIsChecked
-traced_is_checked source text limit absent schedule answer =
-    traced source text limit absent schedule answer.accepted answer.output
+traced_is_checked source text s answer = traced source text s answer.accepted answer.output

@@ -5,7 +5,6 @@ use Rattle.std.proofs.lemmas.List.{drop_all}
 use Rattle.std.proofs.lemmas.List.Sums.{sum_by-append}
 use Rattle.m88_event.proofs.Laws.{one_first}
 use Rattle.m88_event.specs.Timeline.{Moment, opening_moment}
-use Rattle.m88_event.specs.declared.letter.Letter.{Letter}
 use Rattle.m88_isa.specs.Address.{word_address}
 use Rattle.m88_isa.specs.Machine.{Program}
 use Rattle.m88_board.proofs.Laws.{saw_none, saw_then}
@@ -16,7 +15,7 @@ use Rattle.m88_board.specs.declared.glance.Glance.{Glance}
 use Rattle.m88_board.specs.declared.walk.Walk.{Walk}
 use Rattle.m88_cli.proofs.MonitorWalks.{each_none}
 use Rattle.m88_cli.proofs.Reporting.{no_glance}
-use Rattle.m88_cli.specs.Limits.{session_limit}
+use Rattle.m88_cli.specs.Settings.{Settings}
 use Rattle.m88_cli.specs.Answer.MonitorLines.{counts_text}
 use Rattle.m88_cli.specs.Script.{is_break, most_breaks}
 use Rattle.m88_cli.specs.Answer.Session.{Course, IsSession, Session, after_command, course_of, glances_of, moments_of, opening_session, stops_command, text_of_command}
@@ -215,14 +214,14 @@ carry_broke c commands d start i before here after told monitor below carrying b
     )
 
 -- where a session begins
-pub stands_first : (p : Program) (named : ℕ → Bool) (letters : List Letter) (board : BoardView) (monitor : Monitor) →
-    IsAt p named opening_moment board → board.limit ≡ session_limit → monitor.walk.board.now ≡ board →
-    monitor.walk.schedule.now ≡ letters → monitor.walk.taken ≡ 0 → monitor.breakpoints.items ≡ [] →
-    StandsAt (course_of p named letters) opening_session monitor
-stands_first p named letters board monitor at limit same schedule taken none = record {
+pub stands_first : (p : Program) (s : Settings) (board : BoardView) (monitor : Monitor) →
+    IsAt p s.absent opening_moment board → board.limit ≡ s.limit → monitor.walk.board.now ≡ board →
+    monitor.walk.schedule.now ≡ s.schedule → monitor.walk.taken ≡ 0 → monitor.breakpoints.items ≡ [] →
+    StandsAt (course_of p s) opening_session monitor
+stands_first p s board monitor at limit same schedule taken none = record {
   schedule = schedule;
   limit = ap (λ (b : BoardView). b.limit) same ∙ limit;
-  at = subst (λ (b : BoardView). IsAt p named opening_moment b) (sym same) at;
+  at = subst (λ (b : BoardView). IsAt p s.absent opening_moment b) (sym same) at;
   taken = taken;
   breakpoints = none;
 }

@@ -1,20 +1,19 @@
 -- An input of `mon` has one session: one script, one program of the source behind it, and one text.
-use Rattle.std.proofs.Common.{◌≡◌, ℕ, Bool, List, [], ◌∷◌, Option, inl, refl, sym, ◌∙◌, subst, arith}
+use Rattle.std.proofs.Common.{◌≡◌, ℕ, List, [], ◌∷◌, Option, inl, refl, sym, ◌∙◌, subst, arith}
 use Rattle.m88_base.specs.Image.{IsImage, ProgramImage}
-use Rattle.m88_isa.specs.ImageProgram.{IsProgramOf}
 use Rattle.m88_isa.specs.Machine.{Program}
-use Rattle.m88_event.specs.declared.letter.Letter.{Letter}
-use Rattle.m88_board.specs.Glances.{Saw}
 use Rattle.m88_board.specs.declared.glance.Glance.{Glance}
 use Rattle.m88_asm.specs.Inside.Held.{HoldsUnit}
 use Rattle.m88_cli.specs.Command.{mon}
 use Rattle.m88_cli.specs.Inside.Fronts.{IsSessionFront}
-use Rattle.m88_cli.specs.Limits.{session_limit}
 use Rattle.m88_cli.specs.Monitoring.{IsMonitorInput}
 use Rattle.m88_cli.specs.Answer.MonitorText.{IsInputSession, IsMonitorText, Scripted}
 use Rattle.m88_asm.specs.Sources.{IsSourceProgram}
+use Rattle.m88_cli.specs.Inside.Running.{OfImage}
+use Rattle.m88_cli.specs.Inside.SessionKept.{ShowsFront, TellsSession}
 use Rattle.m88_cli.specs.Script.{IsScript}
 use Rattle.m88_cli.specs.Answer.Session.{Course, IsSession, Session, course_of, moments_of, opening_session}
+use Rattle.m88_cli.specs.Settings.{Settings}
 use Rattle.m88_cli.specs.Watching.{FrontOfAccepted, Shown}
 use Rattle.m88_cli.specs.declared.script.MonitorCommand.{MonitorCommand}
 use Rattle.m88_isa.proofs.Laws.{program_of_image}
@@ -26,23 +25,23 @@ use Rattle.m88_cli.proofs.Reporting.{no_glance}
 use Rattle.m88_cli.proofs.Scripts.{one_script}
 
 -- the session of another script and program is that of these
-moved : (absent : ℕ → Bool) (schedule : List Letter) (cs ds : List MonitorCommand) (p q : Program) (text : List ℕ) (glances : List Glance)
-    → cs ≡ ds → p ≡ q → IsSession (course_of p absent schedule) cs opening_session text glances
-    → IsSession (course_of q absent schedule) ds opening_session text glances
-moved absent schedule cs ds p q text glances e f h =
-    subst (λ r. IsSession (course_of r absent schedule) ds opening_session text glances) f
-    (subst (λ xs. IsSession (course_of p absent schedule) xs opening_session text glances) e h)
+moved : (s : Settings) (cs ds : List MonitorCommand) (p q : Program) (text : List ℕ) (glances : List Glance)
+    → cs ≡ ds → p ≡ q → IsSession (course_of p s) cs opening_session text glances
+    → IsSession (course_of q s) ds opening_session text glances
+moved s cs ds p q text glances e f h =
+    subst (λ r. IsSession (course_of r s) ds opening_session text glances) f
+    (subst (λ xs. IsSession (course_of p s) xs opening_session text glances) e h)
 
-pub one_session_text : (input : List ℕ) (absent : ℕ → Bool) (schedule : List Letter) (mxm : Bool) (a b : List ℕ) (glances others : List Glance)
-    → IsInputSession input absent schedule mxm a glances → IsInputSession input absent schedule mxm b others → a ≡ b
-one_session_text input absent schedule mxm a b glances others x y =
+pub one_session_text : (input : List ℕ) (s : Settings) (a b : List ℕ) (glances others : List Glance)
+    → IsInputSession input s a glances → IsInputSession input s b others → a ≡ b
+one_session_text input s a b glances others x y =
     let xs = x.scripted in
     let ys = y.scripted in
     let script = one_script input x.commands y.commands xs.lines ys.lines xs.source ys.source xs.is_script ys.is_script in
-    let program = one_source_program ys.source x.program y.program (subst (λ s. IsSourceProgram s x.program) script.source xs.is_program) ys.is_program
+    let program = one_source_program ys.source x.program y.program (subst (λ t. IsSourceProgram t x.program) script.source xs.is_program) ys.is_program
     (xs.mode ∙ sym ys.mode) in
-    (one_session (course_of y.program absent schedule) y.commands opening_session a b glances others
-    (moved absent schedule x.commands y.commands x.program y.program a glances script.commands program x.is_session) y.is_session).0
+    (one_session (course_of y.program s) y.commands opening_session a b glances others
+    (moved s x.commands y.commands x.program y.program a glances script.commands program x.is_session) y.is_session).0
 
 -- before the first event nothing was seen
 pub no_session_front : (c : Course) (commands : List MonitorCommand) (s : Session) → IsSessionFront c commands s []
@@ -63,41 +62,34 @@ accepted_input input cs n source image is holds = record {
 }
 
 -- what a session over that image writes and shows is the session of the input
-module _ (input : List ℕ) (absent : ℕ → Bool) (schedule : List Letter) (mxm : Bool) (cs : List MonitorCommand) (n : ℕ) (source : List ℕ)
-    (image : ProgramImage) (before after : Option (List Glance)) (is : IsScript input cs n source) (holds : HoldsUnit source image)
-    (sound : IsImage image) where
-  held : Held (IsSourceProgram source) mxm image
-  held = held_by mxm source image holds sound
+module _ (input : List ℕ) (s : Settings) (cs : List MonitorCommand) (n : ℕ) (source : List ℕ) (image : ProgramImage)
+    (before after : Option (List Glance)) (is : IsScript input cs n source) (holds : HoldsUnit source image) (sound : IsImage image) where
+  held : Held (IsSourceProgram source) s.mxm image
+  held = held_by s.mxm source image holds sound
 
-  scripted : Scripted input mxm cs held.program
+  scripted : Scripted input s.mxm cs held.program
   scripted = record { lines = n; source = source; is_script = is; is_program = held.is_such; mode = held.mode }
 
-  abbrev pub IsTold : List ℕ → Type 0
-  IsTold text = (p : Program) → IsProgramOf image p → p.mxm ≡ mxm → (glances : List Glance)
-      × IsSession (course_of p absent schedule) cs opening_session text glances × Saw before after glances
-
-  pub session_of_input : (text : List ℕ) → IsTold text → IsMonitorText input absent schedule mxm text
+  pub session_of_input : (text : List ℕ) → OfImage image s (TellsSession s cs before after text) → IsMonitorText input s text
   session_of_input text told =
       let own = told held.program held.of_image held.mode in
-      (own.0, record { commands = cs; program = held.program; scripted = scripted; is_session = own.1 })
+      (own.glances, record { commands = cs; program = held.program; scripted = scripted; is_session = own.is_session })
 
-  pub shown_to_end : (text : List ℕ) → IsTold text → Shown (mon absent schedule mxm) input before after
+  pub shown_to_end : (text : List ℕ) → OfImage image s (TellsSession s cs before after text) → Shown (mon s) input before after
   shown_to_end text told =
       let own = told held.program held.of_image held.mode in
-      (own.0, (text, record { commands = cs; program = held.program; scripted = scripted; is_session = own.1 }), own.2)
+      (own.glances, (text, record { commands = cs; program = held.program; scripted = scripted; is_session = own.is_session }), own.saw)
 
   -- and where it broke off, a front of that
-  pub front_of_input : ((p : Program) → IsProgramOf image p → p.mxm ≡ mxm → (glances : List Glance)
-      × IsSessionFront (course_of p absent schedule) cs opening_session glances × Saw before after glances)
-      → FrontOfAccepted (mon absent schedule mxm) input before after
+  pub front_of_input : OfImage image s (ShowsFront s cs before after) → FrontOfAccepted (mon s) input before after
   front_of_input told =
       let own = told held.program held.of_image held.mode in
-      let on = session_goes_on (course_of held.program absent schedule) (program_of_image image held.program sound held.of_image) cs opening_session
-      own.0 (opens_sound held.program session_limit) own.1 in
+      let on = session_goes_on (course_of held.program s) (program_of_image image held.program sound held.of_image) cs opening_session
+      own.glances (opens_sound held.program s.limit) own.is_front in
       record {
         accepted = accepted_input input cs n source image is holds;
-        glances = own.0;
+        glances = own.glances;
         others = on.0;
         shows = (on.1, record { commands = cs; program = held.program; scripted = scripted; is_session = on.2 });
-        saw = own.2;
+        saw = own.saw;
       }

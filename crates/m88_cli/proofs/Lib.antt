@@ -1,5 +1,5 @@
 pub mod NoneRead
-pub mod Limited
+pub mod Spelled
 pub mod Numerals
 pub mod PageLists
 pub mod ScriptLines

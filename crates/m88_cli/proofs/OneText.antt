@@ -55,7 +55,7 @@ one_text build input a b x y =
 one_text dis input a b x y =
     let same = one_written input x.image y.image x.is_image y.is_image x.is_written y.is_written in
     one_listing y.image a b (subst (λ image. IsImageListing image a) same x.is_listing) y.is_listing
-one_text (mon absent schedule mxm) input a b x y = one_session_text input absent schedule mxm a b x.0 y.0 x.1 y.1
+one_text (mon s) input a b x y = one_session_text input s a b x.0 y.0 x.1 y.1
 one_text (soak number count) input a b x y =
     one_report (summary_of number count) (IsSourceProgram (workload_source number count)) (workload_settings number count) a b
     (one_source_program (workload_source number count)) x y
@@ -67,10 +67,10 @@ one_text (share limit absent schedule) input a b x y =
     ∙ ap told_of_shared (shared_only (group_of y.programs limit absent) schedule x.shared y.shared
     (subst (λ (ps : List Program). IsShared (group_of ps limit absent) schedule x.shared) programs x.is_shared) y.is_shared)
     ∙ sym y.is_text
-one_text (emu limit absent schedule) input a b x y =
+one_text (emu s) input a b x y =
     let own = holds_of_same input _ _ x y in
-    own.2 ∙ ap told_of_emulated (one_extended_outcome y.program absent limit schedule own.0 y.holds.0 own.1 y.holds.1) ∙ sym y.holds.2
-one_text (page frames limit absent schedule) input a b x y =
-    x.is_text ∙ ap (told_of_paged frames) (one_paged input frames limit absent schedule x.paged y.paged x.comes y.comes) ∙ sym y.is_text
-one_text (trace limit absent schedule) input a b x y = let own = holds_of_same input _ _ x y in own.1 ∙ sym y.holds.1
+    own.2 ∙ ap told_of_emulated (one_extended_outcome y.program s.absent s.limit s.schedule own.0 y.holds.0 own.1 y.holds.1) ∙ sym y.holds.2
+one_text (page frames s) input a b x y =
+    x.is_text ∙ ap (told_of_paged frames) (one_paged input frames s x.paged y.paged x.comes y.comes) ∙ sym y.is_text
+one_text (trace s) input a b x y = let own = holds_of_same input _ _ x y in own.1 ∙ sym y.holds.1
 one_text check input a b x y = x.2 ∙ ap (count_line (codes "ok")) (one_trace input x.0 y.0 x.1 y.1) ∙ sym y.2

@@ -1,9 +1,8 @@
 -- A run of the one program of an input comes to one outcome, and its report answers the input.
-use Rattle.std.proofs.Common.{◌≡◌, ℕ, ◌+◌, Bool, List, [], Option, Result, Ok, Err, true, inr, refl, ap, sym, ◌∙◌, subst, arith}
-use Rattle.std.specs.Prelude.{IfOk, OnErr, OnOk}
+use Rattle.std.proofs.Common.{◌≡◌, ℕ, ◌+◌, Bool, List, [], Option, Result, Ok, Err, inr, refl, ap, sym, ◌∙◌, subst, arith}
+use Rattle.std.specs.Prelude.{OnOk}
 use Rattle.m88_base.specs.Image.{IsImage, ProgramImage}
 use Rattle.m88_base.specs.declared.failing.NoMemory.{NoMemory}
-use Rattle.m88_isa.specs.ImageProgram.{IsProgramOf}
 use Rattle.m88_isa.specs.Machine.{Program}
 use Rattle.m88_event.specs.Letters.{letter_at}
 use Rattle.m88_event.specs.Run.{IsOutcome, IsRunning, moment_after, outcome_at}
@@ -24,6 +23,7 @@ use Rattle.m88_cli.proofs.Programs.{records_held}
 use Rattle.m88_cli.specs.Answer.{Accepts, IsAnswerToAccepted, IsOutput}
 use Rattle.m88_cli.specs.Command.{Command, exec, run}
 use Rattle.m88_cli.specs.Inside.Reply.{AnswersShown, WatchesFront}
+use Rattle.m88_cli.specs.Inside.Running.{GoesAlong, OfImage, Reports, RunsImage, TellsOutcome}
 use Rattle.m88_cli.specs.Answer.Runs.{IsLoadedProgram, IsReport}
 use Rattle.m88_cli.specs.Settings.{Settings}
 use Rattle.m88_cli.specs.Inside.Fronts.{SawFront, SawRun}
@@ -73,8 +73,7 @@ no_front p s seen mode = record {
 
 -- the text is what is told of a run of the program of an image
 abbrev pub TellsOf : (Outcome → List ℕ) → ProgramImage → Settings → List ℕ → Type 0
-TellsOf told_of image s text =
-    (p : Program) → IsProgramOf image p → p.mxm ≡ s.mxm → (o : Outcome) × IsOutcome p s.absent s.limit s.schedule o × (text ≡ told_of o)
+TellsOf told_of image s text = OfImage image s (TellsOutcome (λ told o. told ≡ told_of o) s text)
 
 -- a command that accepts its input carries out the one program of that, which an image holds: what is told of its run
 -- is what the command writes, and what it shows is what the command shows
@@ -99,14 +98,14 @@ module _ (told_of : Outcome → List ℕ) (IsSuch : Program → Type 0) (command
           program = h.program;
           is_such = h.is_such;
           mode = h.mode;
-          outcome = told.0;
-          is_outcome = told.1;
-          is_text = told.2;
+          outcome = told.outcome;
+          is_outcome = told.is_outcome;
+          is_text = told.is_told;
         });
       }
 
   -- and a watch was shown all of the run, or a front
-  pub run_shown : (before after : Option (List Glance)) → ((p : Program) → IsProgramOf image p → p.mxm ≡ s.mxm → SawRun p s before after)
+  pub run_shown : (before after : Option (List Glance)) → OfImage image s (λ p. SawRun p s before after)
       → Shown command input before after
   run_shown before after saw =
       let h = r.held in
@@ -114,7 +113,7 @@ module _ (told_of : Outcome → List ℕ) (IsSuch : Program → Type 0) (command
       let glances = glances_along h.program (moment_after h.program s.absent s.limit s.schedule) seen.events in
       (glances, r.shows h.program glances h.is_such (record { mode = seen.mode; events = seen.events; is_run = seen.is_run; glances_are = refl }), seen.saw)
 
-  pub run_front : (before after : Option (List Glance)) → ((p : Program) → IsProgramOf image p → p.mxm ≡ s.mxm → SawFront p s before after)
+  pub run_front : (before after : Option (List Glance)) → OfImage image s (λ p. SawFront p s before after)
       → FrontOfAccepted command input before after
   run_front before after saw =
       let h = r.held in
@@ -128,18 +127,22 @@ module _ (told_of : Outcome → List ℕ) (IsSuch : Program → Type 0) (command
         saw = seen.saw;
       }
 
-  pub run_answers : {W : Type 0} (seen : W → Option (List Glance)) (old new : W) (result : Result Reply NoMemory)
-      → IfOk result (λ r. r.accepted ≡ true) → IfOk result (λ r. TellsOf told_of image s r.text.items)
-      → OnOk result ((p : Program) → IsProgramOf image p → p.mxm ≡ s.mxm → SawRun p s (seen old) (seen new))
-      → OnErr result ((p : Program) → IsProgramOf image p → p.mxm ≡ s.mxm → SawFront p s (seen old) (seen new))
-      → AnswersShown seen old new command input result
-  run_answers seen old new (Err e) accepted told saw front =
-      record { reply = tt; watched = tt; front = inr (run_front (seen old) (seen new) front) }
-  run_answers seen old new (Ok reply) accepted told saw front = record {
-    reply = rw accepted (run_answer reply.text.items told);
-    watched = rw accepted (run_shown (seen old) (seen new) saw);
-    front = tt;
-  }
+-- so a reply with the report of a run answers the input
+pub run_answers : (IsSuch : Program → Type 0) (command : Command) (input : List ℕ) (s : Settings) (image : ProgramImage)
+    (r : RunsBy report_of IsSuch command input s image) {W : Type 0} (seen : W → Option (List Glance)) (old new : W)
+    (result : Result Reply NoMemory) → RunsImage image s (seen old) (seen new) Reports result → AnswersShown seen old new command input result
+run_answers IsSuch command input s image r seen old new (Err e) ran =
+    record { reply = tt; watched = tt; front = inr (run_front report_of IsSuch command input s image r (seen old) (seen new) ran.front) }
+run_answers IsSuch command input s image r seen old new (Ok reply) ran =
+    let h = r.held in
+    let accepted = (ran.made h.program h.of_image h.mode).0.is_told.0 in
+    record {
+      reply = rw accepted (run_answer report_of IsSuch command input s image r reply.text.items (λ p of mode.
+          let own = (ran.made p of mode).0 in
+          record { outcome = own.outcome; is_outcome = own.is_outcome; is_told = own.is_told.1 }));
+      watched = rw accepted (run_shown report_of IsSuch command input s image r (seen old) (seen new) (λ p of mode. (ran.made p of mode).1));
+      front = tt;
+    }
 
 -- `run` carries out the program of its source, and `exec` that of its records
 pub runs_source : (source : List ℕ) (s : Settings) (image : ProgramImage) → HoldsUnit source image → IsImage image
@@ -181,7 +184,7 @@ pub answers_none : {W E : Type 0} {seen : W → Option (List Glance)} {old new :
 answers_none (Ok reply) none front = absurd none
 answers_none (Err e) none front = record { reply = tt; watched = tt; front = front }
 
--- a fact holds where a call failed
-pub on_err : {T E P : Type 0} (r : Result T E) → P → OnErr r P
-on_err (Ok x) h = tt
-on_err (Err e) h = h
+pub goes_none : {T E : Type 0} {image : ProgramImage} {s : Settings} {IsMade : T → Program → Type 0} {IsFront : Program → Type 0}
+    (r : Result T E) → OnOk r ⊥ → IsImage image → OfImage image s IsFront → GoesAlong image s IsMade IsFront r
+goes_none (Ok x) none is front = absurd none
+goes_none (Err e) none is front = record { is_image = is; made = tt; front = front }

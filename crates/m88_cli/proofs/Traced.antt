@@ -1,8 +1,7 @@
 -- A trace answers the source whose program it is of, and how many lines of it stand behind a source answers both.
-use Rattle.std.proofs.Common.{◌≡◌, ℕ, ◌+◌, Bool, false, List, ap, arith}
+use Rattle.std.proofs.Common.{◌≡◌, ℕ, ◌+◌, false, List, ap, arith}
 use Rattle.std.specs.Prelude.{codes}
 use Rattle.m88_base.specs.Image.{ProgramImage}
-use Rattle.m88_event.specs.declared.letter.Letter.{Letter}
 use Rattle.m88_isa.specs.ImageProgram.{IsProgramOf}
 use Rattle.m88_isa.specs.Machine.{Program}
 use Rattle.m88_report.specs.Report.{count_line}
@@ -11,17 +10,17 @@ use Rattle.m88_trace.specs.declared.fault.TraceFault.TheVariants.{Differs}
 use Rattle.m88_trace.specs.Trace.{IsRunTrace, trace_line, trace_of}
 use Rattle.m88_cli.specs.Answer.{IsAnswerToAccepted}
 use Rattle.m88_cli.specs.Command.{check, trace}
+use Rattle.m88_cli.specs.Settings.{Settings}
 use Rattle.m88_asm.specs.Inside.Held.{HoldsUnit}
 use Rattle.m88_asm.specs.Sources.{HoldsOfProgram}
 use Rattle.m88_cli.specs.TracedSources.{AreTraceParts, DiffersFromTrace, HasTrace, TraceParts, differs_refusal}
 use Rattle.m88_asm.proofs.Laws.{accepted_source, holds_by_image}
 
-pub traced : (source : List ℕ) (limit : ℕ) (absent : ℕ → Bool) (schedule : List Letter) (text : List ℕ) (image : ProgramImage) (p : Program)
-    → HoldsUnit source image → IsProgramOf image p
-    → ((q : Program) → IsProgramOf image q → q.mxm ≡ false → IsRunTrace q absent limit schedule text)
-    → ((q : Program) → IsProgramOf image q → q.mxm ≡ false → text ≡ trace_of q limit)
-    → IsAnswerToAccepted (trace limit absent schedule) source text
-traced source limit absent schedule text image p holds of run alone = record {
+pub traced : (source : List ℕ) (s : Settings) (text : List ℕ) (image : ProgramImage) (p : Program) → HoldsUnit source image
+    → IsProgramOf image p → ((q : Program) → IsProgramOf image q → q.mxm ≡ false → IsRunTrace q s.absent s.limit s.schedule text)
+    → ((q : Program) → IsProgramOf image q → q.mxm ≡ false → text ≡ trace_of q s.limit)
+    → IsAnswerToAccepted (trace s) source text
+traced source s text image p holds of run alone = record {
   accepted = accepted_source source image holds;
   output = holds_by_image source image p _ holds of (λ q is mode. (run q is mode, alone q is mode));
 }

@@ -49,12 +49,12 @@ IsOutput asm source text = IsObjectText source text
 IsOutput link objects text = IsLinkedText objects text
 IsOutput build source text = IsRecordText source text
 IsOutput dis records text = IsListingText records text
-IsOutput (mon absent schedule mxm) input text = IsMonitorText input absent schedule mxm text
+IsOutput (mon settings) input text = IsMonitorText input settings text
 IsOutput (soak number count) input text = IsSummary number count text
 IsOutput (share limit absent schedule) input text = IsSharedText input limit absent schedule text
-IsOutput (emu limit absent schedule) source text = IsEmulatedText source limit absent schedule text
-IsOutput (page frames limit absent schedule) source text = IsPagedText source frames limit absent schedule text
-IsOutput (trace limit absent schedule) source text = IsTraceText source limit absent schedule text
+IsOutput (emu settings) source text = IsEmulatedText source settings text
+IsOutput (page frames settings) source text = IsPagedText source frames settings text
+IsOutput (trace settings) source text = IsTraceText source settings text
 IsOutput check input text = IsCheckText input text
 
 -- the text answers an input that the command accepts

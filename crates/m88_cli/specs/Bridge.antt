@@ -1,8 +1,7 @@
 -- What a command makes of what another one wrote: laws between the commands, of every input.
-use Rattle.std.specs.Prelude.{ℕ, Bool, ◌↔◌, ◌≤◌, ◌++◌, List, length}
+use Rattle.std.specs.Prelude.{ℕ, ◌↔◌, ◌≤◌, ◌++◌, List, length}
 use Rattle.m88_base.specs.Image.{IsImage, ProgramImage}
 use Rattle.m88_base.specs.Lines.{line_end}
-use Rattle.m88_event.specs.declared.letter.Letter.{Letter}
 use Rattle.m88_isa.specs.Machine.{Program}
 use Rattle.m88_parse.specs.Language.Ended.{ended}
 use Rattle.m88_srec.specs.Accepted.{IsAccepted, whole_of}
@@ -58,5 +57,5 @@ with_trace source text = ended source ++ trace_separator ++ line_end ++ text
 
 -- what `trace` writes of a source is accepted behind it by `check`
 abbrev pub TracedIsChecked : Type 0
-TracedIsChecked = (source text : List ℕ) (limit : ℕ) (absent : ℕ → Bool) (schedule : List Letter)
-    → IsAnswerToAccepted (trace limit absent schedule) source text → Accepts check (with_trace source text)
+TracedIsChecked = (source text : List ℕ) (settings : Settings) → IsAnswerToAccepted (trace settings) source text
+    → Accepts check (with_trace source text)

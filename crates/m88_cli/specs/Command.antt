@@ -1,12 +1,16 @@
 -- The commands: what words spell each of them, the kind of its input, and which of them show boards.
 use Rattle.std.specs.Prelude.{ℕ, Bool, true, false, ◌≡◌, ◌<◌, ◌≤◌, ◌^◌, List, [], ◌∷◌, codes}
-use Rattle.m88_event.specs.Letters.{IsSchedule}
-use Rattle.m88_event.specs.declared.letter.Letter.{Letter}
-use Rattle.m88_tasks.specs.Letters.{IsShareSchedule}
 use Rattle.m88_tasks.specs.declared.letter.ShareLetter.{ShareLetter}
-use Rattle.m88_cli.specs.Limits.{most_statements}
+use Rattle.m88_cli.specs.Limits.{most_limit, most_statements, session_limit}
 use Rattle.m88_cli.specs.Numbers.{IsShortNumber}
-use Rattle.m88_cli.specs.Settings.{SayLimited, SayPaged, SaySession, SaySettings, Settings}
+use Rattle.m88_cli.specs.Settings.{SayPaged, SayPlain, SaySession, SaySettings, SayShared, Settings}
+use Rattle.m88_base.specs.declared.absent.Absent.{Absent}
+use Rattle.m88_event.specs.declared.letter.Letter.{Letter}
+use Rattle.m88_mem.specs.Marks.{NamesPages, absent_in}
+use Rattle.m88_pager.specs.Paged.{most_frames}
+use Rattle.m88_cli.specs.declared.commands.Command.{Command as Kept}
+use Rattle.m88_cli.specs.declared.commands.Command.TheVariants.{Run, Exec, Asm, Link, Build, Dis, Mon, Soak, Share, Emu, Page, Trace, Check}
+use Rattle.m88_cli.specs.declared.settings.Settings.{Settings as KeptSettings}
 
 -- the commands
 pub data Command : Type 0 where
@@ -23,17 +27,17 @@ pub data Command : Type 0 where
   -- the listing of S-records
   dis : Command
   -- what the monitor writes for a script over a source
-  mon : (absent : ℕ → Bool) (schedule : List Letter) (mxm : Bool) → Command
+  mon : Settings → Command
   -- the summary of the workload of a number, with so many statements
   soak : (number count : ℕ) → Command
   -- the reports of the programs of some sources on one board
   share : (limit : ℕ) (absent : ℕ → Bool) (schedule : List ShareLetter) → Command
   -- the report of a run of a source with a monitor that emulates
-  emu : (limit : ℕ) (absent : ℕ → Bool) (schedule : List Letter) → Command
+  emu : Settings → Command
   -- the report of a run of a source whose memory stands in so many frames too
-  page : (frames limit : ℕ) (absent : ℕ → Bool) (schedule : List Letter) → Command
+  page : (frames : ℕ) → Settings → Command
   -- the trace of a run of a source
-  trace : (limit : ℕ) (absent : ℕ → Bool) (schedule : List Letter) → Command
+  trace : Settings → Command
   -- whether lines are the first of the trace of a source
   check : Command
 
@@ -61,24 +65,24 @@ name_of asm = codes "asm"
 name_of link = codes "link"
 name_of build = codes "build"
 name_of dis = codes "dis"
-name_of (mon absent schedule mxm) = codes "mon"
+name_of (mon settings) = codes "mon"
 name_of (soak number count) = codes "soak"
 name_of (share limit absent schedule) = codes "share"
-name_of (emu limit absent schedule) = codes "emu"
-name_of (page frames limit absent schedule) = codes "page"
-name_of (trace limit absent schedule) = codes "trace"
+name_of (emu settings) = codes "emu"
+name_of (page frames settings) = codes "page"
+name_of (trace settings) = codes "trace"
 name_of check = codes "check"
 
--- the words are those behind the name of a command; those of `asm`, `link`, `build`, `dis` and `check` have none
+-- the words are those behind the name of a command; one that isn't told here has none
 abbrev pub SayRest : List (List ℕ) → Command → Type 0
 SayRest words (run settings) = SaySettings words settings
 SayRest words (exec settings) = SaySettings words settings
-SayRest words (mon absent schedule mxm) = SaySession words absent schedule mxm
+SayRest words (mon settings) = SaySession words settings
 SayRest words (soak number count) = SayWorkload words number count
-SayRest words (share limit absent schedule) = SayLimited IsShareSchedule words limit absent schedule
-SayRest words (emu limit absent schedule) = SayLimited IsSchedule words limit absent schedule
-SayRest words (page frames limit absent schedule) = SayPaged words frames limit absent schedule
-SayRest words (trace limit absent schedule) = SayLimited IsSchedule words limit absent schedule
+SayRest words (share limit absent schedule) = SayShared words limit absent schedule
+SayRest words (emu settings) = SayPlain words settings
+SayRest words (page frames settings) = SayPaged words frames settings
+SayRest words (trace settings) = SayPlain words settings
 SayRest words _ = words ≡ []
 
 -- the words spell the command: its name, and the words behind it
@@ -118,12 +122,12 @@ kind_of asm = source_to_assemble
 kind_of link = object_text
 kind_of build = source_to_link
 kind_of dis = record_text
-kind_of (mon absent schedule mxm) = scripted_source
+kind_of (mon settings) = scripted_source
 kind_of (soak number count) = no_input
 kind_of (share limit absent schedule) = sources_to_link
-kind_of (emu limit absent schedule) = source_to_link
-kind_of (page frames limit absent schedule) = source_to_link
-kind_of (trace limit absent schedule) = source_to_link
+kind_of (emu settings) = source_to_link
+kind_of (page frames settings) = source_to_link
+kind_of (trace settings) = source_to_link
 kind_of check = traced_source
 
 -- whether there is an input of a kind to read
@@ -143,10 +147,52 @@ SpellNoReader words = (command : Command) → Spells words command → reads_inp
 abbrev pub shows_boards : Command → Bool
 shows_boards (run settings) = true
 shows_boards (exec settings) = true
-shows_boards (mon absent schedule mxm) = true
+shows_boards (mon settings) = true
 shows_boards (soak number count) = true
 shows_boards _ = false
 
 -- the words spell no command that does
 abbrev pub SpellNoRun : List (List ℕ) → Type 0
 SpellNoRun words = (command : Command) → Spells words command → shows_boards command ≡ false
+
+-- the settings of a limit, absent pages, a schedule and a mode
+abbrev pub settings_of : ℕ → Absent → List Letter → Bool → Settings
+settings_of limit absent schedule mxm =
+    record { limit = limit; absent = absent_in absent; schedule = schedule; mxm = mxm }
+
+-- the settings that they are
+abbrev pub settings_in : KeptSettings → Settings
+settings_in s = settings_of s.limit s.absent s.schedule s.mxm
+
+-- the command that it is
+abbrev pub command_of : Kept → Command
+command_of (Run limit absent schedule mxm) = run (settings_of limit absent schedule mxm)
+command_of (Exec limit absent schedule mxm) = exec (settings_of limit absent schedule mxm)
+command_of Asm = asm
+command_of Link = link
+command_of Build = build
+command_of Dis = dis
+command_of (Mon absent schedule mxm) = mon (settings_of session_limit absent schedule mxm)
+command_of (Soak number count) = soak number count
+command_of (Share limit absent schedule) = share limit (absent_in absent) schedule
+command_of (Emu limit absent schedule) = emu (settings_of limit absent schedule false)
+command_of (Page frames limit absent schedule) = page frames (settings_of limit absent schedule false)
+command_of (Trace limit absent schedule) = trace (settings_of limit absent schedule false)
+command_of Check = check
+
+-- a limit is one that a run may have, and there are the pages that are named
+abbrev pub AreBounded : ℕ → Absent → Type 0
+AreBounded limit absent = (limit ≤ most_limit) × NamesPages absent
+
+-- its limit and its pages are so; a workload has no more statements than it may, and a paged run as many frames as
+-- there may be
+abbrev pub IsFit : Kept → Type 0
+IsFit (Run limit absent schedule mxm) = AreBounded limit absent
+IsFit (Exec limit absent schedule mxm) = AreBounded limit absent
+IsFit (Mon absent schedule mxm) = NamesPages absent
+IsFit (Soak number count) = count ≤ most_statements
+IsFit (Share limit absent schedule) = AreBounded limit absent
+IsFit (Emu limit absent schedule) = AreBounded limit absent
+IsFit (Page frames limit absent schedule) = (1 ≤ frames) × (frames ≤ most_frames) × AreBounded limit absent
+IsFit (Trace limit absent schedule) = AreBounded limit absent
+IsFit _ = Unit {0}

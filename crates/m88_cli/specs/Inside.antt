@@ -7,4 +7,5 @@ pub mod Placing
 pub mod Drawing
 pub mod Reply
 pub mod Fronts
+pub mod Running
 pub mod SessionKept

@@ -17,5 +17,4 @@ pub mod Watching
 pub mod Bridge
 pub mod Status
 -- A command as the code keeps it, and words for the contracts of private functions.
-pub mod Kept
 pub mod Inside

@@ -3,12 +3,14 @@ use Rattle.std.specs.Prelude.{ℕ, Bool, true, false, ◌≡◌, ◌≤◌, List
 use Rattle.m88_event.specs.Letters.{IsSchedule}
 use Rattle.m88_event.specs.declared.letter.Letter.{Letter}
 use Rattle.m88_pager.specs.Paged.{most_frames}
-use Rattle.m88_cli.specs.Limits.{most_limit}
+use Rattle.m88_tasks.specs.Letters.{IsShareSchedule}
+use Rattle.m88_tasks.specs.declared.letter.ShareLetter.{ShareLetter}
+use Rattle.m88_cli.specs.Limits.{most_limit, session_limit}
 use Rattle.m88_cli.specs.Numbers.{IsShortNumber}
 use Rattle.m88_cli.specs.Pages.{IsAbsent}
 
--- the settings of a run: it retires at most so many instructions, these pages are absent at first, its events begin
--- with these letters, and MXM, the bit by which misaligned addresses are rounded down, is set or clear
+-- the settings of a run or a session: it retires at most so many instructions, these pages are absent at first, its
+-- events begin with these letters, and MXM, the bit by which misaligned addresses are rounded down, is set or clear
 pub record Settings : Type 0 where
   pub limit : ℕ
   pub absent : ℕ → Bool
@@ -24,44 +26,51 @@ abbrev pub mode_words : Bool → List (List ℕ)
 mode_words false = []
 mode_words true = codes "mxm" ∷ []
 
--- the words are the absent pages, the schedule and the mode of a session, and those of a run behind its limit
-pub record SaySession (words : List (List ℕ)) (absent : ℕ → Bool) (schedule : List Letter) (mxm : Bool)
-    : Type 0 where
+-- the words are the absent pages, the schedule and the mode of settings with this limit
+pub record SayOpening (limit : ℕ) (words : List (List ℕ)) (settings : Settings) : Type 0 where
+  pub limit_is : settings.limit ≡ limit
   pub absent_text : List ℕ
   pub schedule_text : List ℕ
-  pub words_are : words ≡ absent_text ∷ schedule_text ∷ mode_words mxm
-  pub is_absent : IsAbsent absent_text absent
-  pub is_schedule : IsSchedule schedule_text schedule
+  pub words_are : words ≡ absent_text ∷ schedule_text ∷ mode_words settings.mxm
+  pub is_absent : IsAbsent absent_text settings.absent
+  pub is_schedule : IsSchedule schedule_text settings.schedule
 
--- the words are a limit, absent pages and letters of a schedule, with MXM clear; which texts are such letters is for
--- the command to say
-pub record SayLimited {Letters : Type 0} (AreSuch : List ℕ → Letters → Type 0) (words : List (List ℕ)) (limit : ℕ)
-    (absent : ℕ → Bool) (letters : Letters) : Type 0 where
-  pub limit_text : List ℕ
-  pub absent_text : List ℕ
-  pub letters_text : List ℕ
-  pub words_are : words ≡ limit_text ∷ absent_text ∷ letters_text ∷ []
-  pub is_limit : IsLimit limit_text limit
-  pub is_absent : IsAbsent absent_text absent
-  pub are_letters : AreSuch letters_text letters
+-- they are those of a session, whose limit no word says
+abbrev pub SaySession : List (List ℕ) → Settings → Type 0
+SaySession words settings = SayOpening session_limit words settings
 
--- a text writes a number of frames in one or two decimal digits, of which the first may be a zero
-abbrev pub IsFrameCount : List ℕ → ℕ → Type 0
-IsFrameCount text n = IsShortNumber 10 2 text n × (1 ≤ n) × (n ≤ most_frames)
-
--- the words are the number of frames of a paged run, its limit, its absent pages and its schedule
-pub record SayPaged (words : List (List ℕ)) (frames limit : ℕ) (absent : ℕ → Bool) (schedule : List Letter)
-    : Type 0 where
-  pub frames_text : List ℕ
-  pub rest : List (List ℕ)
-  pub words_are : words ≡ frames_text ∷ rest
-  pub is_count : IsFrameCount frames_text frames
-  pub say_rest : SayLimited IsSchedule rest limit absent schedule
-
--- the words are the limit, the absent pages, the schedule and the mode of a run
+-- the words are the limit of a run, and then its absent pages, its schedule and its mode
 pub record SaySettings (words : List (List ℕ)) (settings : Settings) : Type 0 where
   pub limit_text : List ℕ
   pub rest : List (List ℕ)
   pub words_are : words ≡ limit_text ∷ rest
   pub is_limit : IsLimit limit_text settings.limit
-  pub say_rest : SaySession rest settings.absent settings.schedule settings.mxm
+  pub say_rest : SayOpening settings.limit rest settings
+
+-- the same without a word for the mode
+pub record SayPlain (words : List (List ℕ)) (settings : Settings) : Type 0 where
+  pub say : SaySettings words settings
+  pub clear : settings.mxm ≡ false
+
+-- a text writes a number of frames in one or two decimal digits, of which the first may be a zero
+abbrev pub IsFrameCount : List ℕ → ℕ → Type 0
+IsFrameCount text n = IsShortNumber 10 2 text n × (1 ≤ n) × (n ≤ most_frames)
+
+-- the words are the number of frames of a paged run, and then those of a run without a mode
+pub record SayPaged (words : List (List ℕ)) (frames : ℕ) (settings : Settings) : Type 0 where
+  pub frames_text : List ℕ
+  pub rest : List (List ℕ)
+  pub words_are : words ≡ frames_text ∷ rest
+  pub is_count : IsFrameCount frames_text frames
+  pub say_rest : SayPlain rest settings
+
+-- the words are the limit, the absent pages and the schedule of a shared run
+pub record SayShared (words : List (List ℕ)) (limit : ℕ) (absent : ℕ → Bool) (schedule : List ShareLetter)
+    : Type 0 where
+  pub limit_text : List ℕ
+  pub absent_text : List ℕ
+  pub schedule_text : List ℕ
+  pub words_are : words ≡ limit_text ∷ absent_text ∷ schedule_text ∷ []
+  pub is_limit : IsLimit limit_text limit
+  pub is_absent : IsAbsent absent_text absent
+  pub is_schedule : IsShareSchedule schedule_text schedule

@@ -1,6 +1,5 @@
--- What a watch is shown while a command is carried out: of `run`, `exec` and `soak`, and of a session with the monitor
--- the board after each event, and of other commands nothing; `share`, `emu`, `page` and `trace` run boards that no
--- watch is shown.
+-- What a watch is shown while a command is carried out: the board after each event, where the command shows boards, and
+-- else nothing. Some commands run boards that no watch is shown.
 use Rattle.std.specs.Prelude.{ℕ, ◌≡◌, ◌++◌, ◌⊎◌, List, [], Option}
 use Rattle.m88_isa.specs.Machine.{Program}
 use Rattle.m88_event.specs.Run.{IsRun, moment_after}
@@ -25,8 +24,7 @@ pub record ShowsRun (p : Program) (s : Settings) (glances : List Glance) : Type 
 abbrev pub Shows : Command → List ℕ → List Glance → Type 0
 Shows (run settings) source glances = (p : Program) × IsSourceProgram source p × ShowsRun p settings glances
 Shows (exec settings) text glances = (p : Program) × IsLoadedProgram text p × ShowsRun p settings glances
-Shows (mon absent schedule mxm) input glances =
-    (text : List ℕ) × IsInputSession input absent schedule mxm text glances
+Shows (mon settings) input glances = (text : List ℕ) × IsInputSession input settings text glances
 Shows (soak number count) input glances = (p : Program) × IsSourceProgram (workload_source number count) p
     × ShowsRun p (workload_settings number count) glances
 Shows _ input glances = glances ≡ []

@@ -1,12 +1,13 @@
 //! The commands of the program: what its words ask for, and what each makes of its whole input.
 ghost use Rattle.std.specs.Prelude.{ℕ, ◌≡◌, List, false};
-ghost use Rattle.m88_cli.specs.Command.{kind_of, shows_boards};
+ghost use Rattle.m88_cli.specs.Command.{IsFit, command_of, kind_of, shows_boards};
 ghost use Rattle.m88_cli.specs.Inside.Inputs.{IsKeptAs, IsMadeOf};
-ghost use Rattle.m88_cli.specs.Kept.{IsFit, command_of};
 ghost use Rattle.m88_cli.specs.Inside.Reply.{AnswersShown};
 
 use crate::input::Input;
+use crate::limits::SESSION_LIMIT;
 use crate::reply::Reply;
+use crate::settings::Settings;
 use assembly::{assemble_source, build_source};
 use emulation::emulate_source;
 use loading::list_records;
@@ -23,11 +24,11 @@ use soaking::run_workload;
 use std::alloc::Global;
 use traces::{check_source, trace_source};
 
-// What commands make of a source, of one with a trace, of several, of objects, of S-records, of a script, and of a
-// number.
+// What commands make of their inputs.
 mod assembly;
 mod emulation;
 mod loading;
+mod monitor;
 mod monitoring;
 mod numbered;
 mod objects;
@@ -40,9 +41,6 @@ mod sources;
 mod summary;
 mod traces;
 mod workload;
-
-// What the monitor makes of the commands of a script.
-mod monitor;
 
 /// What the words of the program ask for.
 #[derive(Drop, Debug)]
@@ -115,20 +113,20 @@ pub enum Command<'a> {
     Check,
 }
 
-/// The reply of a command to its whole input; the board of `run`, `exec`, `mon` and `soak` is shown to the watch after
-/// each event, and no other.
+/// The reply of a command to its whole input. Where the command shows boards, its board is shown to the watch after
+/// each event.
 #[tactic(auto, using(crate::proofs::Refusing::shows_none))]
 pub fn reply_to<W: Watch>(
     alloc: Global,
-    command: &Command,
+    command: Command,
     input: &Input,
     watch: &mut W,
 ) -> Result<Reply, NoMemory>
-    requires fit { IsFit command.now }
-    requires kept { IsKeptAs (kind_of (command_of command.now)) input.now }
+    requires fit { IsFit command }
+    requires kept { IsKeptAs (kind_of (command_of command)) input.now }
     ensures answers { (bytes : List ℕ) → IsMadeOf input.now bytes
-        → AnswersShown W.seen watch.old watch.new (command_of command.now) bytes result }
-    ensures unshown { shows_boards (command_of command.now) ≡ false → watch.new ≡ watch.old }
+        → AnswersShown W.seen watch.old watch.new (command_of command.entry) bytes result }
+    ensures unshown { shows_boards (command_of command.entry) ≡ false → watch.new ≡ watch.old }
 {
     match command {
         Command::Run {
@@ -136,21 +134,29 @@ pub fn reply_to<W: Watch>(
             absent,
             schedule,
             mxm,
-        } => run_source(alloc, *limit, absent, schedule, *mxm, input.text(), watch),
+        } => {
+            let settings = Settings {
+                limit,
+                absent,
+                schedule,
+                mxm,
+            };
+            run_source(alloc, &settings, input.text(), watch)
+        }
         Command::Exec {
             limit,
             absent,
             schedule,
             mxm,
-        } => run_records(
-            alloc,
-            *limit,
-            absent,
-            schedule,
-            *mxm,
-            input.records(),
-            watch,
-        ),
+        } => {
+            let settings = Settings {
+                limit,
+                absent,
+                schedule,
+                mxm,
+            };
+            run_records(alloc, &settings, input.records(), watch)
+        }
         Command::Asm => assemble_source(alloc, input.text()),
         Command::Link => link_objects(alloc, input.text()),
         Command::Build => build_source(alloc, input.text()),
@@ -159,29 +165,61 @@ pub fn reply_to<W: Watch>(
             absent,
             schedule,
             mxm,
-        } => run_monitor(alloc, absent, schedule, *mxm, input.text(), watch),
-        Command::Soak { number, count } => run_workload(alloc, *number, *count, watch),
+        } => {
+            let settings = Settings {
+                limit: SESSION_LIMIT,
+                absent,
+                schedule,
+                mxm,
+            };
+            run_monitor(alloc, &settings, input.text(), watch)
+        }
+        Command::Soak { number, count } => run_workload(alloc, number, count, watch),
         Command::Share {
             limit,
             absent,
             schedule,
-        } => share_board(alloc, *limit, absent, schedule, input.text()),
+        } => share_board(alloc, limit, &absent, &schedule, input.text()),
         Command::Emu {
             limit,
             absent,
             schedule,
-        } => emulate_source(alloc, *limit, absent, schedule, input.text()),
+        } => {
+            let settings = Settings {
+                limit,
+                absent,
+                schedule,
+                mxm: false,
+            };
+            emulate_source(alloc, &settings, input.text())
+        }
         Command::Page {
             frames,
             limit,
             absent,
             schedule,
-        } => page_source(alloc, *frames, *limit, absent, schedule, input.text()),
+        } => {
+            let settings = Settings {
+                limit,
+                absent,
+                schedule,
+                mxm: false,
+            };
+            page_source(alloc, frames, &settings, input.text())
+        }
         Command::Trace {
             limit,
             absent,
             schedule,
-        } => trace_source(alloc, *limit, absent, schedule, input.text()),
+        } => {
+            let settings = Settings {
+                limit,
+                absent,
+                schedule,
+                mxm: false,
+            };
+            trace_source(alloc, &settings, input.text())
+        }
         Command::Check => check_source(alloc, input.text()),
     }
 }

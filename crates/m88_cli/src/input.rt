@@ -1,10 +1,9 @@
 //! The input that a command reads, as it wants it.
 ghost use Rattle.std.specs.Prelude.{ℕ, ◌≡◌, ◌≤◌, IfErr, IfOk, List, false, true, length};
 ghost use Rattle.std.specs.Io.KnownBytes.{Consumes, IsAtEnd};
-ghost use Rattle.m88_cli.specs.Command.{kind_of, reads_input};
+ghost use Rattle.m88_cli.specs.Command.{command_of, kind_of, reads_input};
 ghost use Rattle.m88_cli.specs.Inside.Inputs.{AreRecordsOf, IsKeptAs, IsMadeOf, IsReadFrom, IsRecordsRead, IsTextRead};
 ghost use Rattle.m88_base.specs.Reading.{ReadsSource};
-ghost use Rattle.m88_cli.specs.Kept.{command_of};
 ghost use Rattle.m88_cli.specs.Limits.{most_input};
 ghost use Rattle.m88_cli.specs.Loading.{srec_refusal};
 

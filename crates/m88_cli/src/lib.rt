@@ -10,6 +10,7 @@ mod grammar;
 mod limits;
 mod numbers;
 mod pages;
+mod settings;
 
 // The top call, from its words to its answer.
 mod input;

@@ -10,8 +10,7 @@ ghost use Rattle.m88_base.specs.Status.{Answers, IsAnswered, IsOfReading, Writes
 ghost use Rattle.m88_cli.specs.Answer.{Accepts, IsAnswer, IsAnswerToAccepted, IsAnswerToRefused, IsOutput, Refuses};
 ghost use Rattle.m88_cli.specs.Bridge.{AssembledLinksAlike, BuiltRunsAlike, ListedBuildsAlike, TracedIsChecked};
 ghost use Rattle.m88_cli.specs.Calls.{CarriedOut, GivesInput, Given, HasInput};
-ghost use Rattle.m88_cli.specs.Command.{Command as Choice, SpellNoReader, SpellNoRun, SpellNothing, Spells, reads_input, shows_boards};
-ghost use Rattle.m88_cli.specs.Kept.{IsFit, command_of};
+ghost use Rattle.m88_cli.specs.Command.{Command as Choice, IsFit, SpellNoReader, SpellNoRun, SpellNothing, Spells, command_of, reads_input, shows_boards};
 ghost use Rattle.m88_cli.specs.Limits.{most_input};
 ghost use Rattle.m88_base.specs.Refusal.{Refusal, refusal_line};
 ghost use Rattle.m88_cli.specs.Inside.Reply.{Replies, WatchesReply};
@@ -30,8 +29,8 @@ use m88_board::Watch;
 use std::alloc::Global;
 
 /// The whole program between its words, a source, a sink and a watch: the command that the words spell reads
-/// the source to its end, its text is written to the sink, and the board of `run`, `exec`, `mon` and `soak` is
-/// shown to the watch after each event.
+/// the source to its end, its text is written to the sink, and where it shows boards, its board is shown to the
+/// watch after each event.
 #[tactic(auto, using(crate::proofs::BridgeLaws::laws))]
 pub fn m88<S: Source, K: Sink, W: Watch>(
     alloc: Global,
@@ -137,7 +136,7 @@ pub fn m88<S: Source, K: Sink, W: Watch>(
     let Some(command) = command(words) else {
         return Status::Usage;
     };
-    match reply_from(alloc, &command, source, watch) {
+    match reply_from(alloc, command, source, watch) {
         Ok(reply) => reply.write_to(sink),
         Err(status) => status,
     }
@@ -146,28 +145,28 @@ pub fn m88<S: Source, K: Sink, W: Watch>(
 /// The reply of a command to what a source gives it, or why there is none.
 fn reply_from<S: Source, W: Watch>(
     alloc: Global,
-    command: &Command,
+    command: Command,
     source: &mut S,
     watch: &mut W,
 ) -> Result<Reply, Status>
-    requires { IsFit command.now }
+    requires { IsFit command }
     ensures ok { IfOk result (λ reply. (input : List ℕ)
-        × GivesInput (command_of command.now) (S.left source.old) (S.left source.new) input
-        × Replies (command_of command.now) input reply
-        × WatchesReply W.seen watch.old watch.new (command_of command.now) input reply) }
-    ensures unread { reads_input (command_of command.now) ≡ false → source.new ≡ source.old }
-    ensures unshown_by { shows_boards (command_of command.now) ≡ false → watch.new ≡ watch.old }
+        × GivesInput (command_of command.entry) (S.left source.old) (S.left source.new) input
+        × Replies (command_of command.entry) input reply
+        × WatchesReply W.seen watch.old watch.new (command_of command.entry) input reply) }
+    ensures unread { reads_input (command_of command.entry) ≡ false → source.new ≡ source.old }
+    ensures unshown_by { shows_boards (command_of command.entry) ≡ false → watch.new ≡ watch.old }
     ensures reading { ReadsSource Status.SourceFault Status.TooLong S.left S.calls S.faults
         source.old source.new result }
     ensures status { IfErr result IsOfReading }
-    ensures memory { IfErr result (λ status. reads_input (command_of command.now) ≡ false
+    ensures memory { IfErr result (λ status. reads_input (command_of command.entry) ≡ false
         → status ≡ Status.Memory) }
     ensures unshown { IfErr result (λ status. ShowsNothing status → watch.new ≡ watch.old) }
     ensures front { OnErr result ((watch.new ≡ watch.old) ⊎ ((input : List ℕ)
-        × GivesInput (command_of command.now) (S.left source.old) (S.left source.new) input
-        × FrontOfAccepted (command_of command.now) input (W.seen watch.old) (W.seen watch.new))) }
+        × GivesInput (command_of command.entry) (S.left source.old) (S.left source.new) input
+        × FrontOfAccepted (command_of command.entry) input (W.seen watch.old) (W.seen watch.new))) }
 {
-    let input = input_of(alloc, command, source)?;
+    let input = input_of(alloc, &command, source)?;
     let reply = reply_to(alloc, command, &input, watch)?;
     Ok(reply)
 }

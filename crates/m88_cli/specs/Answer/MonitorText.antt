@@ -1,11 +1,11 @@
 -- What `mon` writes and shows: a session over the program of the source behind the script.
 use Rattle.std.specs.Prelude.{ℕ, Bool, ◌≡◌, List}
 use Rattle.m88_isa.specs.Machine.{Program}
-use Rattle.m88_event.specs.declared.letter.Letter.{Letter}
 use Rattle.m88_board.specs.declared.glance.Glance.{Glance}
 use Rattle.m88_asm.specs.Sources.{IsSourceProgram}
 use Rattle.m88_cli.specs.Script.{IsScript}
 use Rattle.m88_cli.specs.Answer.Session.{IsSession, course_of, opening_session}
+use Rattle.m88_cli.specs.Settings.{Settings}
 use Rattle.m88_cli.specs.declared.script.MonitorCommand.{MonitorCommand}
 
 -- the commands of an input's script, and a program of the source behind it, in a mode
@@ -17,14 +17,13 @@ pub record Scripted (input : List ℕ) (mxm : Bool) (commands : List MonitorComm
   pub mode : p.mxm ≡ mxm
 
 -- a session of the input's commands over such a program writes the text and shows the glances
-pub record IsInputSession (input : List ℕ) (absent : ℕ → Bool) (schedule : List Letter) (mxm : Bool) (text : List ℕ)
-    (glances : List Glance) : Type 0 where
+pub record IsInputSession (input : List ℕ) (settings : Settings) (text : List ℕ) (glances : List Glance)
+    : Type 0 where
   pub commands : List MonitorCommand
   pub program : Program
-  pub scripted : Scripted input mxm commands program
-  pub is_session : IsSession (course_of program absent schedule) commands opening_session text glances
+  pub scripted : Scripted input settings.mxm commands program
+  pub is_session : IsSession (course_of program settings) commands opening_session text glances
 
 -- the text is what a session writes
-abbrev pub IsMonitorText : List ℕ → (ℕ → Bool) → List Letter → Bool → List ℕ → Type 0
-IsMonitorText input absent schedule mxm text =
-    (glances : List Glance) × IsInputSession input absent schedule mxm text glances
+abbrev pub IsMonitorText : List ℕ → Settings → List ℕ → Type 0
+IsMonitorText input settings text = (glances : List Glance) × IsInputSession input settings text glances

@@ -10,8 +10,8 @@ use Rattle.m88_report.specs.Report.{record_lines}
 use Rattle.m88_board.specs.Glances.{glances_along}
 use Rattle.m88_board.specs.Walks.{is_halt, is_made, moments_from, stops_after}
 use Rattle.m88_board.specs.declared.glance.Glance.{Glance}
-use Rattle.m88_cli.specs.Limits.{session_limit}
 use Rattle.m88_cli.specs.Answer.MonitorLines.{breakpoint_line, counts_text, registers_text, event_line, words_text}
+use Rattle.m88_cli.specs.Settings.{Settings}
 use Rattle.m88_cli.specs.declared.script.MonitorCommand.{MonitorCommand}
 use Rattle.m88_cli.specs.declared.script.MonitorCommand.TheVariants.{Step, Go, Break, Regs, Pipe, Memory, Drain, Trace}
 
@@ -23,10 +23,9 @@ pub record Course : Type 0 where
   pub limit : ℕ
   pub schedule : List Letter
 
--- the course of a session's board
-abbrev pub course_of : Program → (ℕ → Bool) → List Letter → Course
-course_of p named schedule =
-    record { program = p; named = named; limit = session_limit; schedule = schedule }
+-- the course of a program with the settings of a session
+abbrev pub course_of : Program → Settings → Course
+course_of p s = record { program = p; named = s.absent; limit = s.limit; schedule = s.schedule }
 
 -- where a session stands: the moment, how many letters of the run were taken, and the breakpoints, which are addresses
 -- of words

@@ -9,9 +9,10 @@ use Rattle.m88_board.specs.Glances.{Saw}
 use Rattle.m88_board.specs.Moves.{IsAt}
 use Rattle.m88_board.specs.declared.glance.Glance.{Glance}
 use Rattle.m88_cli.specs.Script.{is_break}
-use Rattle.m88_cli.specs.Inside.Fronts.{MakesEach}
-use Rattle.m88_cli.specs.Answer.Session.{Course, Makes, Session, after_command, glances_of, text_of_command}
+use Rattle.m88_cli.specs.Inside.Fronts.{IsSessionFront, MakesEach}
+use Rattle.m88_cli.specs.Answer.Session.{Course, IsSession, Makes, Session, after_command, course_of, glances_of, opening_session, text_of_command}
 use Rattle.m88_cli.specs.Answer.MonitorLines.{happened_line, letter_text}
+use Rattle.m88_cli.specs.Settings.{Settings}
 use Rattle.m88_cli.specs.declared.commands.monitor.Monitor.{Monitor}
 use Rattle.m88_cli.specs.declared.commands.monitor.tracing.Before.{Before}
 use Rattle.m88_cli.specs.declared.script.MonitorCommand.{MonitorCommand}
@@ -68,3 +69,17 @@ abbrev pub told_line : Before → Happened → List ℕ
 told_line before happened =
     letter_text before.number before.letter
     ++ happened_line before.address before.instruction before.fault happened
+
+-- a session over a program writes the text, and a watch was shown it
+pub record TellsSession (s : Settings) (commands : List MonitorCommand) (before after : Option (List Glance))
+    (text : List ℕ) (p : Program) : Type 0 where
+  pub glances : List Glance
+  pub is_session : IsSession (course_of p s) commands opening_session text glances
+  pub saw : Saw before after glances
+
+-- or a front of one
+pub record ShowsFront (s : Settings) (commands : List MonitorCommand) (before after : Option (List Glance))
+    (p : Program) : Type 0 where
+  pub glances : List Glance
+  pub is_front : IsSessionFront (course_of p s) commands opening_session glances
+  pub saw : Saw before after glances

@@ -8,8 +8,8 @@ ghost use Rattle.m88_cli.specs.Inside.Linking.{IsObjectsOf};
 ghost use Rattle.m88_asm.specs.Inside.Held.{HoldsUnit};
 ghost use Rattle.m88_cli.specs.Inside.Reply.{Replies};
 
-use crate::reply::{Reply, refuse};
 use crate::commands::source_fault::{unassembled, unlinked, unread};
+use crate::reply::{Reply, refuse};
 use m88_asm::{UnitFault, assemble, image_of};
 use m88_base::{Image, NoMemory, Refusal};
 use m88_link::{Object, object_text};

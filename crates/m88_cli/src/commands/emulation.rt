@@ -1,39 +1,37 @@
 //! What `emu` makes of a source: a run with a monitor that emulates, its report, and what was emulated.
 ghost use Rattle.std.specs.Prelude.{◌≡◌, ◌++◌, ◌≤◌, IfOk, OnOk, length};
 ghost use Rattle.std.specs.List.{enumerate_from, flat_map};
-ghost use Rattle.m88_mem.specs.Marks.{NamesPages, absent_in};
-ghost use Rattle.m88_cli.specs.Command.{emu};
+ghost use Rattle.m88_cli.specs.Command.{AreBounded, emu, settings_in};
 ghost use Rattle.m88_cli.specs.Answer.Emulation.{emulation_line, told_of_emulated};
 ghost use Rattle.m88_cli.specs.Inside.Reply.{Replies};
-ghost use Rattle.m88_cli.specs.Limits.{most_input, most_limit};
+ghost use Rattle.m88_cli.specs.Limits.{most_input};
 
 use crate::commands::assembly::image_of_source;
 use crate::commands::numbered::push_numbered_event;
 use crate::reply::{Reply, refuse};
-use m88_base::{Absent, NoMemory, push_decimal, push_hex8};
+use crate::settings::Settings;
+use m88_base::{NoMemory, push_decimal, push_hex8};
 use m88_emul::{EmulOutcome, Emulation};
-use m88_event::Schedule;
 use m88_report::{push_count, report};
 use std::alloc::{AllocError, Global};
 
 /// The reply of `emu` to a source.
-pub fn emulate_source(
-    alloc: Global,
-    limit: u32,
-    absent: &Absent,
-    schedule: &Schedule,
-    source: &[u8],
-) -> Result<Reply, NoMemory>
+pub fn emulate_source(alloc: Global, settings: &Settings, source: &[u8]) -> Result<Reply, NoMemory>
     requires size { length source.now ≤ most_input }
-    requires limit { limit ≤ most_limit }
-    requires pages { NamesPages absent.now }
-    ensures { IfOk result (Replies (emu limit (absent_in absent.now) schedule.now) source.now) }
+    requires fit { AreBounded settings.now.limit settings.now.absent }
+    ensures { IfOk result (Replies (emu (settings_in settings.now)) source.now) }
 {
     let image = match image_of_source(alloc, 0, source)? {
         Ok(image) => image,
         Err(refusal) => return refuse(alloc, &refusal),
     };
-    let outcome = m88_emul::run(alloc, &image, absent, limit, schedule)?;
+    let outcome = m88_emul::run(
+        alloc,
+        &image,
+        &settings.absent,
+        settings.limit,
+        &settings.schedule,
+    )?;
     let text = emulated_text(alloc, &outcome)?;
     Ok(Reply {
         accepted: true,

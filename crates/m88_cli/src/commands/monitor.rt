@@ -1,24 +1,18 @@
 //! The monitor: the commands of a script, carried out one after the other on one board.
-ghost use Rattle.std.specs.Prelude.{ℕ, Bool, ◌≡◌, ◌<◌, ◌≤◌, ◌+◌, ◌++◌, ◌∷◌, [], List, IfOk, OnErr, OnOk, count_by, length};
-ghost use Rattle.m88_event.specs.Timeline.{opening_moment};
+ghost use Rattle.std.specs.Prelude.{◌≡◌, ◌<◌, ◌≤◌, ◌+◌, ◌++◌, ◌∷◌, [], OnOk, count_by, length};
 ghost use Rattle.m88_isa.specs.Address.{word_address};
-ghost use Rattle.m88_isa.specs.Machine.{Program};
-ghost use Rattle.m88_board.specs.Glances.{Saw};
-ghost use Rattle.m88_board.specs.Moves.{IsAt};
-ghost use Rattle.m88_board.specs.declared.glance.Glance.{Glance};
 ghost use Rattle.m88_cli.specs.Answer.MonitorLines.{breakpoint_line};
-ghost use Rattle.m88_cli.specs.Limits.{session_limit};
+ghost use Rattle.m88_cli.specs.Command.{AreBounded, settings_in};
 ghost use Rattle.m88_cli.specs.Script.{is_break, most_breaks};
-ghost use Rattle.m88_cli.specs.Inside.Fronts.{IsSessionFront};
-ghost use Rattle.m88_cli.specs.Answer.Session.{IsSession, course_of, opening_session};
-ghost use Rattle.m88_cli.specs.Inside.SessionKept.{Carries};
+ghost use Rattle.m88_cli.specs.Inside.Running.{GoesAlong};
+ghost use Rattle.m88_cli.specs.Inside.SessionKept.{Carries, ShowsFront, TellsSession};
 
 use crate::script::MonitorCommand;
 use crate::script_lines::MOST_BREAKS;
+use crate::settings::Settings;
 use arrayvec::ArrayVec;
-use m88_base::NoMemory;
+use m88_base::{Image, NoMemory};
 use m88_board::{Board, Walk, Watch};
-use m88_event::Schedule;
 use showing::{push_all_registers, push_breakpoint, push_pipe, push_words};
 use std::alloc::Global;
 
@@ -33,29 +27,26 @@ pub(crate) struct Monitor<'a> {
     breakpoints: ArrayVec<u32, MOST_BREAKS>,
 }
 
-/// What commands write that are carried out in order on a board before its first event. Its events take the letters of
-/// a schedule, and then `r` and `i` in turn. The board is shown to the watch after each event.
+/// What commands write that are carried out in order on a board over the program that an image holds. The board is
+/// shown to the watch after each event.
 pub fn carry_out<W: Watch>(
     alloc: Global,
-    mut board: Board,
-    schedule: &Schedule,
+    settings: &Settings,
     commands: &[MonitorCommand],
+    image: &Image,
     watch: &mut W,
 ) -> Result<Vec<u8>, NoMemory>
-    requires fresh { board.events ≡ 0 }
-    requires limit { board.limit ≡ session_limit }
+    requires fit { AreBounded settings.now.limit settings.now.absent }
     requires breaks { count_by is_break commands.now ≤ most_breaks }
-    ensures ok { IfOk result (λ text. (p : Program) (named : ℕ → Bool)
-        → IsAt p named opening_moment board → (glances : List Glance)
-        × IsSession (course_of p named schedule.now) commands.now opening_session text.items glances
-        × Saw (W.seen watch.old) (W.seen watch.new) glances) }
-    ensures err { OnErr result ((p : Program) (named : ℕ → Bool)
-        → IsAt p named opening_moment board → (glances : List Glance)
-        × IsSessionFront (course_of p named schedule.now) commands.now opening_session glances
-        × Saw (W.seen watch.old) (W.seen watch.new) glances) }
+    ensures { GoesAlong image.now (settings_in settings.now)
+        (λ text. TellsSession (settings_in settings.now) commands.now
+        (W.seen watch.old) (W.seen watch.new) text.items)
+        (ShowsFront (settings_in settings.now) commands.now (W.seen watch.old) (W.seen watch.new))
+        result }
 {
+    let mut board = Board::new(alloc, image, &settings.absent, settings.limit, settings.mxm)?;
     let mut monitor = Monitor {
-        walk: Walk::new(&mut board, schedule),
+        walk: Walk::new(&mut board, &settings.schedule),
         breakpoints: ArrayVec::new(),
     };
     let mut text = Vec::new(alloc);

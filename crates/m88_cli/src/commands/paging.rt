@@ -1,17 +1,16 @@
 //! What `page` makes of a source: a run whose memory stands in frames before a store of pages, its report, and how
 //! often pages came in and went out.
 ghost use Rattle.std.specs.Prelude.{◌≡◌, ◌≤◌, IfOk, length};
-ghost use Rattle.m88_mem.specs.Marks.{NamesPages, absent_in};
 ghost use Rattle.m88_pager.specs.Paged.{most_frames};
-ghost use Rattle.m88_cli.specs.Command.{page};
+ghost use Rattle.m88_cli.specs.Command.{AreBounded, page, settings_in};
 ghost use Rattle.m88_cli.specs.Inside.Reply.{Replies};
-ghost use Rattle.m88_cli.specs.Limits.{most_input, most_limit};
+ghost use Rattle.m88_cli.specs.Limits.{most_input};
 ghost use Rattle.m88_cli.specs.Answer.Paging.{told_of_paged};
 
 use crate::commands::assembly::image_of_source;
 use crate::reply::{Reply, refuse};
-use m88_base::{Absent, NoMemory};
-use m88_event::Schedule;
+use crate::settings::Settings;
+use m88_base::NoMemory;
 use m88_pager::{MemStore, Paged, page_run};
 use m88_report::{push_count, report};
 use std::alloc::Global;
@@ -20,18 +19,14 @@ use std::alloc::Global;
 pub fn page_source(
     alloc: Global,
     frames: u32,
-    limit: u32,
-    absent: &Absent,
-    schedule: &Schedule,
+    settings: &Settings,
     source: &[u8],
 ) -> Result<Reply, NoMemory>
     requires size { length source.now ≤ most_input }
     requires some { 1 ≤ frames }
     requires most { frames ≤ most_frames }
-    requires limit { limit ≤ most_limit }
-    requires pages { NamesPages absent.now }
-    ensures { IfOk result
-        (Replies (page frames limit (absent_in absent.now) schedule.now) source.now) }
+    requires fit { AreBounded settings.now.limit settings.now.absent }
+    ensures { IfOk result (Replies (page frames (settings_in settings.now)) source.now) }
 {
     let image = match image_of_source(alloc, 0, source)? {
         Ok(image) => image,
@@ -39,7 +34,15 @@ pub fn page_source(
     };
     // No call of this store fails, so that a run before it ends without an outcome only for want of memory.
     let mut store = MemStore::new(alloc, &[])?;
-    let Ok(paged) = page_run(alloc, &image, absent, limit, schedule, frames, &mut store) else {
+    let Ok(paged) = page_run(
+        alloc,
+        &image,
+        &settings.absent,
+        settings.limit,
+        &settings.schedule,
+        frames,
+        &mut store,
+    ) else {
         return Err(NoMemory);
     };
     let text = paged_text(alloc, frames, &paged)?;

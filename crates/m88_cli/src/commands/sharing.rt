@@ -8,8 +8,8 @@ ghost use Rattle.m88_cli.specs.Limits.{most_input, most_limit};
 ghost use Rattle.m88_cli.specs.Answer.Sharing.{numbered_report, saved_line, switch_line, switch_lines, told_of_shared};
 
 use crate::commands::numbered::push_numbered_event;
-use crate::reply::{Reply, refuse};
 use crate::commands::sources::images_of_sources;
+use crate::reply::{Reply, refuse};
 use m88_base::{Absent, NoMemory, push_decimal};
 use m88_event::Outcome;
 use m88_report::{push_count, push_named, report};

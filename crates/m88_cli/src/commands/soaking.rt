@@ -5,10 +5,11 @@ ghost use Rattle.m88_cli.specs.Limits.{most_statements};
 ghost use Rattle.m88_cli.specs.Inside.Reply.{AnswersShown};
 
 use crate::commands::assembly::image_of_source;
-use crate::reply::Reply;
 use crate::commands::running::outcome_of;
 use crate::commands::summary::summary;
 use crate::commands::workload::Draws;
+use crate::reply::Reply;
+use crate::settings::Settings;
 use m88_base::{Absent, NoMemory};
 use m88_board::Watch;
 use m88_event::Schedule;
@@ -34,7 +35,13 @@ pub fn run_workload<W: Watch>(
     let Ok(image) = image_of_source(alloc, 0, source.as_slice())? else {
         unreachable!();
     };
-    let outcome = outcome_of(alloc, count, &Absent::All, &schedule, false, &image, watch)?;
+    let settings = Settings {
+        limit: count,
+        absent: Absent::All,
+        schedule,
+        mxm: false,
+    };
+    let outcome = outcome_of(alloc, &settings, &image, watch)?;
     let text = summary(alloc, number, count, &outcome)?;
     Ok(Reply {
         accepted: true,

@@ -1,37 +1,35 @@
 //! What `trace` makes of a source, and `check` of a source with lines of a trace behind it.
 ghost use Rattle.std.specs.Prelude.{◌≡◌, ◌+◌, ◌≤◌, IfOk, length};
-ghost use Rattle.m88_mem.specs.Marks.{NamesPages, absent_in};
-ghost use Rattle.m88_cli.specs.Command.{check, trace};
+ghost use Rattle.m88_cli.specs.Command.{AreBounded, check, settings_in, trace};
 ghost use Rattle.m88_cli.specs.Inside.Reply.{Replies};
-ghost use Rattle.m88_cli.specs.Limits.{most_input, most_limit};
+ghost use Rattle.m88_cli.specs.Limits.{most_input};
 ghost use Rattle.m88_cli.specs.TracedSources.{differs_refusal, no_trace_refusal};
 
 use crate::commands::assembly::image_of_source;
 use crate::reply::{Reply, refuse};
-use m88_base::{Absent, NoMemory, Refusal, parted_at};
-use m88_event::Schedule;
+use crate::settings::Settings;
+use m88_base::{NoMemory, Refusal, parted_at};
 use m88_report::push_count;
 use m88_trace::{TraceFault, check_trace, trace_run};
 use std::alloc::Global;
 
 /// The reply of `trace` to a source.
-pub fn trace_source(
-    alloc: Global,
-    limit: u32,
-    absent: &Absent,
-    schedule: &Schedule,
-    source: &[u8],
-) -> Result<Reply, NoMemory>
+pub fn trace_source(alloc: Global, settings: &Settings, source: &[u8]) -> Result<Reply, NoMemory>
     requires size { length source.now ≤ most_input }
-    requires limit { limit ≤ most_limit }
-    requires pages { NamesPages absent.now }
-    ensures { IfOk result (Replies (trace limit (absent_in absent.now) schedule.now) source.now) }
+    requires fit { AreBounded settings.now.limit settings.now.absent }
+    ensures { IfOk result (Replies (trace (settings_in settings.now)) source.now) }
 {
     let image = match image_of_source(alloc, 0, source)? {
         Ok(image) => image,
         Err(refusal) => return refuse(alloc, &refusal),
     };
-    let text = trace_run(alloc, &image, absent, limit, schedule)?;
+    let text = trace_run(
+        alloc,
+        &image,
+        &settings.absent,
+        settings.limit,
+        &settings.schedule,
+    )?;
     Ok(Reply {
         accepted: true,
         text,

@@ -1,10 +1,21 @@
--- Where the words say no such run, they spell no command.
-use Rattle.std.proofs.Common.{rules}
+-- The words behind the name say the settings that are read of them, and nothing else.
+use Rattle.std.proofs.Common.{◌≡◌, ap, false, refl, rules}
+use Rattle.m88_cli.specs.Command.{trace, settings_of}
 use Rattle.m88_cli.specs.Words.{texts}
-use Rattle.m88_cli.proofs.Limited.{no_trace}
 use Rattle.m88_cli.proofs.NoneRead.{reads_none}
+use Rattle.m88_cli.proofs.Spelled.{trace_said}
 use Rattle.m88_cli.proofs.grammar.trace_command.Goals as goal
 
-pub returns-in_err-limit : goal.returns-in_err-limit
-returns-in_err-limit c = reads_none c.from_residual.result (search rules)
-    (λ command said. no_trace (texts c.args.words.now) command said c.in_err-limit.ensures.only)
+pub returns-in_err-settings : goal.returns-in_err-settings
+returns-in_err-settings c =
+    reads_none c.from_residual.result (search rules) (trace_said _ (λ _. ⊥) c.in_err-settings.ensures.only)
+
+pub returns : goal.returns
+returns c =
+    let own = c.in_ok-settings.settings in
+    let s = settings_of own.limit own.absent own.schedule false in
+    record {
+      found = record { rest = texts c.args.words.now; words_are = refl; say_rest = c.in_ok-settings.ensures.found };
+      only = trace_said _ (λ choice. trace s ≡ choice) (λ t say. ap trace (c.in_ok-settings.ensures.only t say));
+      fit = c.in_ok-settings.ensures.fit;
+    }

@@ -5,8 +5,7 @@ use Rattle.m88_base.specs.Outside.{AppendsPart}
 use Rattle.m88_base.specs.Refusal.{refusal_line}
 use Rattle.m88_base.specs.Status.{WritesNothing}
 use Rattle.m88_cli.specs.Answer.{Accepts}
-use Rattle.m88_cli.specs.Command.{reads_input}
-use Rattle.m88_cli.specs.Kept.{command_of}
+use Rattle.m88_cli.specs.Command.{command_of, reads_input}
 use Rattle.m88_cli.proofs.BridgeListings.{listed_builds_alike}
 use Rattle.m88_cli.proofs.BridgeTraces.{traced_is_checked}
 use Rattle.m88_cli.proofs.OneScript as scripts

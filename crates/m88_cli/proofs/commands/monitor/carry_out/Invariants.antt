@@ -1,18 +1,16 @@
 -- Some commands are carried out, what they wrote is in the text, and there is room for the breakpoints of the others.
-use Rattle.std.proofs.Common.{ℕ, ◌+◌, ◌≤◌, Bool, drop, length}
+use Rattle.std.proofs.Common.{◌+◌, ◌≤◌, drop, length}
 use Rattle.std.specs.Prelude.{count_by}
-use Rattle.m88_event.specs.Timeline.{opening_moment}
-use Rattle.m88_isa.specs.Machine.{Program}
-use Rattle.m88_board.specs.Moves.{IsAt}
 use Rattle.m88_cli.proofs.Carrying.{IsCarrying}
+use Rattle.m88_cli.specs.Inside.Running.{OfImage}
+use Rattle.m88_cli.specs.Command.{settings_in}
 use Rattle.m88_cli.specs.Script.{is_break, most_breaks}
 use Rattle.m88_cli.specs.Answer.Session.{course_of, opening_session}
 use Rattle.m88_cli.proofs.commands.monitor.carry_out.Given as goal
 
 abbrev pub invariant-loop-command : goal.invariant-loop-command
 invariant-loop-command g l = record {
-  carrying : (p : Program) (named : ℕ → Bool) → IsAt p named opening_moment l.fn.board
-      → IsCarrying (course_of p named l.fn.schedule) l.commands opening_session l.command-index (g.W.Watch.seen l.initial.watch)
-      (g.W.Watch.seen l.watch) l.text.items l.monitor;
+  carrying : OfImage l.image (settings_in l.settings) (λ p. IsCarrying (course_of p (settings_in l.settings)) l.commands opening_session
+      l.command-index (g.W.Watch.seen l.initial.watch) (g.W.Watch.seen l.watch) l.text.items l.monitor);
   room : length l.monitor.breakpoints.items + count_by is_break (drop l.command-index l.commands) ≤ most_breaks;
 }

@@ -1,16 +1,31 @@
 -- The report is that of what the run comes to.
-use Rattle.m88_cli.specs.Kept.{settings_of}
-use Rattle.m88_cli.proofs.Reporting.{front_of_run, on_err}
+use Rattle.std.proofs.Common.{ap, refl, rules, ◌∙◌}
+use Rattle.m88_report.specs.Report.{report_of}
+use Rattle.m88_cli.specs.Command.{settings_in}
+use Rattle.m88_cli.proofs.Reporting.{front_of_run, goes_none}
 use Rattle.m88_cli.proofs.commands.running.run_image.Goals as goal
 
-pub returns-in_err-outcome-clause-front : goal.returns-in_err-outcome-clause-front
-returns-in_err-outcome-clause-front g c = on_err c.from_residual.result c.in_err-outcome.ensures.front
+pub returns-in_err-outcome : goal.returns-in_err-outcome
+returns-in_err-outcome g c =
+    goes_none c.from_residual.result (search rules) c.outcome_of.ensures.is_image c.in_err-outcome.ensures.front
 
-pub returns-in_err-text-clause-front : goal.returns-in_err-text-clause-front
-returns-in_err-text-clause-front g c =
-    on_err c.from_residual-in_err-text.result (λ p of mode.
-    front_of_run p (settings_of c.args.limit c.args.absent.now c.args.schedule.now c.args.mxm) (g.W.Watch.seen c.args.watch.now)
-    (g.W.Watch.seen c.outcome_of.new.watch) (c.in_ok-outcome.ensures.watched p of mode))
+pub returns-in_err-text : goal.returns-in_err-text
+returns-in_err-text g c =
+    goes_none c.from_residual-in_err-text.result (search rules) c.outcome_of.ensures.is_image (λ p of mode.
+    front_of_run p (settings_in c.args.settings.now) (g.W.Watch.seen c.args.watch.now) (g.W.Watch.seen c.outcome_of.new.watch)
+    (c.in_ok-outcome.ensures.made p of mode).1)
 
-pub returns-clause-report : goal.returns-clause-report
-returns-clause-report g c = λ p of mode. (c.in_ok-outcome.outcome, c.in_ok-outcome.ensures.outcome p of mode, c.in_ok-text.ensures)
+pub returns : goal.returns
+returns g c = record {
+  is_image = c.outcome_of.ensures.is_image;
+  made = λ p of mode.
+      let own = c.in_ok-outcome.ensures.made p of mode in (
+        record {
+          outcome = own.0.outcome;
+          is_outcome = own.0.is_outcome;
+          is_told = (refl, c.in_ok-text.ensures ∙ ap report_of own.0.is_told);
+        },
+        own.1,
+      );
+  front = tt;
+}

@@ -1,20 +1,17 @@
 -- The image holds the program of the source, and the report of its run answers the source.
 use Rattle.m88_asm.specs.Inside.Held.{HoldsUnit}
-use Rattle.m88_cli.specs.Command.{run}
-use Rattle.m88_cli.specs.Kept.{settings_of}
+use Rattle.m88_cli.specs.Command.{run, settings_in}
 use Rattle.m88_cli.proofs.Refusing.{refused_shown}
 use Rattle.m88_cli.proofs.Reporting.{run_answers, runs_source}
 use Rattle.m88_cli.proofs.commands.running.run_source.Goals as goal
 
 pub returns-in-Err : goal.returns-in-Err
 returns-in-Err g c =
-    refused_shown g.W.Watch.seen c.args.watch.now (run (settings_of c.args.limit c.args.absent.now c.args.schedule.now c.args.mxm))
-    c.args.source.now c.in-Err.refusal c.refuse.result (rw c.in-Err.is at c.in_ok-image.ensures) c.refuse.ensures
+    refused_shown g.W.Watch.seen c.args.watch.now (run (settings_in c.args.settings.now)) c.args.source.now c.in-Err.refusal
+    c.refuse.result (rw c.in-Err.is at c.in_ok-image.ensures) c.refuse.ensures
 
 pub returns-in-Ok : goal.returns-in-Ok
 returns-in-Ok g c =
     let holds : HoldsUnit c.args.source.now c.in-Ok.image = rw c.in-Ok.is at c.in_ok-image.ensures in
-    let s = settings_of c.args.limit c.args.absent.now c.args.schedule.now c.args.mxm in
-    run_answers _ _ _ _ _ _ (runs_source c.args.source.now s c.in-Ok.image holds c.run_image.ensures.image)
-    g.W.Watch.seen c.args.watch.now c.run_image.new.watch c.run_image.result c.run_image.ensures.accepted c.run_image.ensures.report
-    c.run_image.ensures.watched c.run_image.ensures.front
+    run_answers _ _ _ _ _ (runs_source c.args.source.now (settings_in c.args.settings.now) c.in-Ok.image holds c.run_image.ensures.is_image)
+    g.W.Watch.seen c.args.watch.now c.run_image.new.watch c.run_image.result c.run_image.ensures

@@ -1,5 +1,6 @@
 -- The letters are read as the schedule, the source has no fault, and the summary of its run answers.
-use Rattle.std.proofs.Common.{inr, rules}
+use Rattle.std.proofs.Common.{ap, inr, rules, ◌∙◌}
+use Rattle.m88_cli.specs.Answer.Workload.{summary_of}
 use Rattle.m88_cli.proofs.Reporting.{answers_none, front_of_run, run_answer, run_front, run_shown}
 use Rattle.m88_cli.proofs.SoakReply.{are_unread, letters_text, never_refused, read_letters, runs_workload, soak_settings, source_text}
 use Rattle.m88_cli.proofs.WorkloadSources.{source_short}
@@ -32,7 +33,7 @@ returns-in_err-outcome g c = λ input.
     c.as_str.result.now _ c.new-draws.ensures c.in_ok-source.ensures.seed c.in_ok-letters.ensures c.as_str.ensures.value in
     let runs = runs_workload c.args.number c.args.count input c.as_slice.result.now c.in-Ok.image c.in-Some.schedule source_is
     (read_letters c.read.result c.in-Some.schedule _ c.in-Some.is (c.read.ensures.only _ letters))
-    (rw c.in-Ok.is at c.in_ok-image.ensures) c.outcome_of.ensures.image in
+    (rw c.in-Ok.is at c.in_ok-image.ensures) c.outcome_of.ensures.is_image in
     answers_none c.from_residual-in_err-outcome.result (search rules) (inr (run_front _ _ _ _ _ _ runs _ _ c.in_err-outcome.ensures.front))
 
 pub returns-in_err-text : goal.returns-in_err-text
@@ -43,11 +44,11 @@ returns-in_err-text g c = λ input.
     c.as_str.result.now _ c.new-draws.ensures c.in_ok-source.ensures.seed c.in_ok-letters.ensures c.as_str.ensures.value in
     let runs = runs_workload c.args.number c.args.count input c.as_slice.result.now c.in-Ok.image c.in-Some.schedule source_is
     (read_letters c.read.result c.in-Some.schedule _ c.in-Some.is (c.read.ensures.only _ letters))
-    (rw c.in-Ok.is at c.in_ok-image.ensures) c.outcome_of.ensures.image in
+    (rw c.in-Ok.is at c.in_ok-image.ensures) c.outcome_of.ensures.is_image in
     answers_none c.from_residual-in_err-text.result (search rules) (inr (run_front _ _ _ _ _ _ runs (g.W.Watch.seen c.args.watch.now)
     (g.W.Watch.seen c.outcome_of.new.watch) (λ p of mode.
     front_of_run p (soak_settings c.args.number c.args.count c.in-Some.schedule) (g.W.Watch.seen c.args.watch.now)
-    (g.W.Watch.seen c.outcome_of.new.watch) (c.in_ok-outcome.ensures.watched p of mode))))
+    (g.W.Watch.seen c.outcome_of.new.watch) (c.in_ok-outcome.ensures.made p of mode).1)))
 
 pub returns : goal.returns
 returns g c = λ input.
@@ -57,10 +58,16 @@ returns g c = λ input.
     c.as_str.result.now _ c.new-draws.ensures c.in_ok-source.ensures.seed c.in_ok-letters.ensures c.as_str.ensures.value in
     let runs = runs_workload c.args.number c.args.count input c.as_slice.result.now c.in-Ok.image c.in-Some.schedule source_is
     (read_letters c.read.result c.in-Some.schedule _ c.in-Some.is (c.read.ensures.only _ letters))
-    (rw c.in-Ok.is at c.in_ok-image.ensures) c.outcome_of.ensures.image in
+    (rw c.in-Ok.is at c.in_ok-image.ensures) c.outcome_of.ensures.is_image in
     record {
       reply = run_answer _ _ _ _ _ _ runs c.in_ok-text.text.items
-          (λ p of mode. (c.in_ok-outcome.outcome, c.in_ok-outcome.ensures.outcome p of mode, c.in_ok-text.ensures));
-      watched = run_shown _ _ _ _ _ _ runs _ _ c.in_ok-outcome.ensures.watched;
+          (λ p of mode.
+          let own = (c.in_ok-outcome.ensures.made p of mode).0 in
+          record {
+            outcome = own.outcome;
+            is_outcome = own.is_outcome;
+            is_told = c.in_ok-text.ensures ∙ ap (summary_of c.args.number c.args.count) own.is_told;
+          });
+      watched = run_shown _ _ _ _ _ _ runs _ _ (λ p of mode. (c.in_ok-outcome.ensures.made p of mode).1);
       front = tt;
     }
