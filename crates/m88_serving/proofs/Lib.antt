@@ -1,0 +1,15 @@
+-- What only helps the proofs.
+pub mod Texts
+pub mod Marked
+pub mod Taken
+pub mod Puts
+pub mod Named
+pub mod Making
+pub mod Held
+pub mod Verdicts
+pub mod Dmts
+pub mod Emptied
+pub mod Readback
+pub mod Touched
+pub mod Faulted
+pub mod Laws

@@ -1,0 +1,95 @@
+-- What holds of every input and of every word.
+use Rattle.std.specs.Prelude.{◌≡◌, ◌↔◌, ◌⊎◌, ◌<◌, ◌%◌, ◌^◌, ◌++◌, ℕ, Bool, All, List, [], ◌∷◌, None, Ok, Err, flat_map, true}
+use Rattle.m88_base.specs.OneVerdict.{HasOneVerdict}
+use Rattle.m88_base.specs.declared.reg.Reg.{Reg}
+use Rattle.m88_base.specs.declared.triple.Triple.{Triple}
+use Rattle.m88_event.specs.Run.{moment_after}
+use Rattle.m88_event.specs.Timeline.{Moment, record_at}
+use Rattle.m88_event.specs.declared.letter.Letter.{Letter}
+use Rattle.m88_event.specs.declared.record.Record.{Record}
+use Rattle.m88_isa.specs.History.{bus_at}
+use Rattle.m88_isa.specs.Machine.{Program}
+use Rattle.m88_isa.specs.Memory.{Touch, access_of, touches_of}
+use Rattle.m88_isa.specs.Triples.{dmt_of}
+use Rattle.m88_isa.specs.declared.instr.MemOp.{MemOp}
+use Rattle.m88_monitor.specs.Serving.{after_service}
+use Rattle.m88_serving.specs.Cases.{Case}
+use Rattle.m88_report.specs.Report.{record_lines, word_line}
+use Rattle.m88_serving.specs.Faults.{is_dmt, repeated_from}
+use Rattle.m88_serving.specs.Served.{IsServed, served_text}
+use Rattle.m88_serving.specs.Serving.{named_bus, serving_of_case, serving_with}
+use Rattle.m88_serving.specs.Verdict.{verdict}
+use Rattle.m88_serving.specs.declared.fault.ServeFault.{ServeFault}
+
+-- an input is accepted or has a first fault, never both, and one at most
+abbrev pub EachInputHasOneVerdict : Type 0
+EachInputHasOneVerdict =
+    (input : List ℕ)
+    → HasOneVerdict (λ (told : Case). verdict input ≡ Ok told) (λ (fault : ServeFault). verdict input ≡ Err fault)
+
+-- one of some touches has this DMT
+abbrev pub IsDmtAmong : ℕ → List Touch → Type 0
+IsDmtAmong dmt [] = ⊥
+IsDmtAmong dmt (t ∷ touches) = (dmt ≡ dmt_of (access_of t)) ⊎ IsDmtAmong dmt touches
+
+-- an access of a memory mnemonic has this DMT
+pub record IsDmtOfAnAccess (dmt : ℕ) : Type 0 where
+  pub op : MemOp
+  pub d : Reg
+  pub value : ℕ
+  pub second : ℕ
+  pub place : ℕ
+  pub among : IsDmtAmong dmt (touches_of op d value second place)
+
+-- a word is taken as a DMT exactly where an access has it
+abbrev pub EachDmtIsOfAnAccess : Type 0
+EachDmtIsOfAnAccess = (dmt : ℕ) → is_dmt dmt ≡ true ↔ IsDmtOfAnAccess dmt
+
+-- behind the service of what is accepted no register waits
+abbrev pub EachLeavesNoneWaiting : Type 0
+EachLeavesNoneWaiting =
+    (input : List ℕ) (told : Case) → verdict input ≡ Ok told → (after_service (serving_of_case told)).control.ssbr ≡ 0
+
+-- the three words of a transaction have 32 bits, and so have all of a record, as a board has them
+pub record IsTripleOfWords (t : Triple) : Type 0 where
+  pub dmt : t.dmt < 2 ^ 32
+  pub dmd : t.dmd < 2 ^ 32
+  pub dma : t.dma < 2 ^ 32
+
+pub record HasWords (r : Record) : Type 0 where
+  pub epsr : r.epsr < 2 ^ 32
+  pub sxip : r.sxip < 2 ^ 32
+  pub snip : r.snip < 2 ^ 32
+  pub sfip : r.sfip < 2 ^ 32
+  pub ssbr : r.ssbr < 2 ^ 32
+  pub triples : All IsTripleOfWords r.triples
+
+-- a word of data memory with its address, as the monitor shows it
+pub record IsShownWord (word : ℕ × ℕ) : Type 0 where
+  pub aligned : word.0 % 4 ≡ 0
+  pub address : word.0 < 2 ^ 32
+  pub value : word.1 < 2 ^ 32
+
+-- words are those of data memory: none is named twice, and where none is named there is 0
+pub record AreWordsOf (bus : ℕ → ℕ) (words : List (ℕ × ℕ)) : Type 0 where
+  pub shown : All IsShownWord words
+  pub once : repeated_from 5 [] words ≡ None
+  pub all : named_bus words ≡ bus
+
+-- the lines that m88 shows of a data fault, and those of words
+abbrev pub shown_fault : Record → List (ℕ × ℕ) → List ℕ
+shown_fault r words = record_lines r ++ flat_map word_line words
+
+-- the record that a data fault would leave at a moment, with the words of that moment, is accepted, and what is written
+-- is what the service makes of it
+abbrev pub IsServedAt : Program → (ℕ → Bool) → ℕ → Moment → Type 0
+IsServedAt p named limit m =
+    (words : List (ℕ × ℕ)) → HasWords (record_at p named limit m) → AreWordsOf (bus_at p m.retired m.done) words
+    → IsServed (shown_fault (record_at p named limit m) words)
+    (served_text (serving_with (record_at p named limit m) (bus_at p m.retired m.done)))
+
+-- so it is at each moment of a run
+abbrev pub EachFaultIsServed : Type 0
+EachFaultIsServed =
+    (p : Program) (named : ℕ → Bool) (limit : ℕ) (schedule : List Letter) (k : ℕ)
+    → IsServedAt p named limit (moment_after p named limit schedule k)

@@ -1,0 +1,10 @@
+-- What a reader of the promises must believe.
+pub mod Lines
+pub mod Cases
+pub mod Faults
+pub mod Verdict
+pub mod Serving
+pub mod Served
+pub mod Calls
+pub mod Laws
+pub mod Inside
