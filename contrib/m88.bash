@@ -24,6 +24,8 @@ _m88() {
   COMPREPLY=($(compgen -W "$choices" -- "$word"))
 }
 complete -o default -F _m88 m88 ./m88
+# m88list and m88serve take no words; bash completes the names of files behind <.
+complete -o default -W "" m88list ./m88list m88serve ./m88serve
 # Of contrib/bench a source or records, then the words of its board; of contrib/session these words; of contrib/own the letters
 # of a shared run; of contrib/many a folder, then what its inputs are. contrib/ticks takes two numbers.
 _m88_beside() {

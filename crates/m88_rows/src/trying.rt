@@ -8,6 +8,7 @@ use m88_base::{MemSink, MemSource, Status};
 use m88_board::Unwatched;
 use m88_cli::m88;
 use m88_listing::m88list;
+use m88_serving::m88serve;
 use memchr::memmem;
 use std::alloc::Global;
 
@@ -183,6 +184,7 @@ fn answer(
     match program.as_str() {
         "m88" => Ok(m88(alloc, words, source, sink, &mut Unwatched::new())),
         "m88list" => Ok(m88list(alloc, words, source, sink)),
+        "m88serve" => Ok(m88serve(alloc, words, source, sink)),
         _ => bail!("there is no program {program}"),
     }
 }
