@@ -23,7 +23,7 @@ use Rattle.m88_parse.specs.declared.unit.Unit.{Unit as Source}
 use Rattle.m88_asm.specs.Accepted.{IsAcceptedUnit}
 use Rattle.m88_asm.specs.Faults.{IsAssembled}
 use Rattle.m88_asm.specs.Images.{IsUnitImage}
-use Rattle.m88_asm.specs.LinkedTexts.{IsImageOfObjects, IsLinkableText, IsRefusedObjects, IsUnlinkable, form_refusal, range_refusal}
+use Rattle.m88_asm.specs.LinkedTexts.{IsImageOfObjects, IsLinkableText, IsRefusedObjects, IsUnlinkable, object_refusal}
 use Rattle.m88_asm.specs.Objects.{objects_of}
 use Rattle.m88_asm.specs.Sources.{IsProgramSource, IsRefusedProgram, IsSourceImage, link_refusal}
 use Rattle.m88_asm.specs.Units.{unit_layout}
@@ -73,11 +73,11 @@ same_unlinkable text r s a b =
     a.refusal ∙ ap (link_refusal 0) fault ∙ sym b.refusal
 
 same_objects_refusal : (text : List ℕ) (r s : Refusal) → IsRefusedObjects text r → IsRefusedObjects text s → r ≡ s
-same_objects_refusal text r s (inl a) (inl b) = a.refusal ∙ ap form_refusal (one_form text a.line b.line a.is_first b.is_first) ∙ sym b.refusal
+same_objects_refusal text r s (inl a) (inl b) = a.refusal ∙ ap (λ line. object_refusal line (Form line)) (one_form text a.line b.line a.is_first b.is_first) ∙ sym b.refusal
 same_objects_refusal text r s (inl a) (inr (inl b)) = absurd (one_kind text b.line a.line b.is_first a.is_first)
 same_objects_refusal text r s (inl a) (inr (inr b)) = absurd (no_form text b.objects a.line b.is_text a.is_first)
 same_objects_refusal text r s (inr (inl a)) (inl b) = absurd (one_kind text a.line b.line a.is_first b.is_first)
-same_objects_refusal text r s (inr (inl a)) (inr (inl b)) = a.refusal ∙ ap range_refusal (one_range text a.line b.line a.is_first b.is_first) ∙ sym b.refusal
+same_objects_refusal text r s (inr (inl a)) (inr (inl b)) = a.refusal ∙ ap (λ line. object_refusal line (Range line)) (one_range text a.line b.line a.is_first b.is_first) ∙ sym b.refusal
 same_objects_refusal text r s (inr (inl a)) (inr (inr b)) = absurd (no_range text b.objects a.line b.is_text a.is_first)
 same_objects_refusal text r s (inr (inr a)) (inl b) = absurd (no_form text a.objects b.line a.is_text b.is_first)
 same_objects_refusal text r s (inr (inr a)) (inr (inl b)) = absurd (no_range text a.objects b.line a.is_text b.is_first)

@@ -56,12 +56,7 @@ starts_at c _ = c.starts
 
 -- the counters once the body's section stands
 abbrev pub at_section : Counters → Body → Counters
-at_section c body = record {
-  here = here_at c body;
-  count = count_at c body;
-  starts = starts_at c body;
-  lengths = c.lengths;
-}
+at_section c body = record c { here = here_at c body; count = count_at c body; starts = starts_at c body }
 
 -- the number of bytes that the section that stands has, and the place that alignment goes by
 abbrev pub offset_here : Counters → ℕ
@@ -88,12 +83,7 @@ length_at place _ = 0
 
 -- the counters with n bytes more in the section that stands
 abbrev pub with_length : Counters → ℕ → Counters
-with_length c n = record {
-  here = c.here;
-  count = c.count;
-  starts = c.starts;
-  lengths = put c.lengths c.here (c.lengths c.here + n);
-}
+with_length c n = record c { lengths = put c.lengths c.here (c.lengths c.here + n) }
 
 -- the counters after a statement with this body
 abbrev pub after : Counters → Body → Counters

@@ -10,6 +10,7 @@ use Rattle.m88_link.specs.Reasons.{object_reason}
 use Rattle.m88_link.specs.Refusal.{IsLinkable, IsRefused}
 use Rattle.m88_link.specs.declared.fault.LinkFault.{LinkFault}
 use Rattle.m88_link.specs.declared.object.Object.{Object}
+use Rattle.m88_link.specs.declared.object_fault.ObjectFault.{ObjectFault}
 use Rattle.m88_link.specs.declared.object_fault.ObjectFault.TheVariants.{Form, Range}
 use Rattle.m88_asm.specs.Sources.{link_refusal}
 
@@ -26,25 +27,21 @@ pub record IsImageOfObjects (text : List ℕ) (image : ProgramImage) : Type 0 wh
   pub is_image : IsImage image
   pub is_linked : IsLinked (layout_of objects) image
 
--- the refusal at a line that the text of no objects continues
-abbrev pub form_refusal : ℕ → Refusal
-form_refusal line = record { line = line; column = 1; reason = object_reason (Form line) }
-
--- at a line by which an object isn't sound
-abbrev pub range_refusal : ℕ → Refusal
-range_refusal line = record { line = line; column = 1; reason = object_reason (Range line) }
+-- the refusal at a line with this fault
+abbrev pub object_refusal : ℕ → ObjectFault → Refusal
+object_refusal line fault = record { line = line; column = 1; reason = object_reason fault }
 
 -- a text that is none of objects is refused at the first line that no such text continues
 pub record IsNoObjects (text : List ℕ) (r : Refusal) : Type 0 where
   pub line : ℕ
   pub is_first : IsFormLine text line
-  pub refusal : r ≡ form_refusal line
+  pub refusal : r ≡ object_refusal line (Form line)
 
 -- that of objects which aren't all sound, at the first line by which one of them isn't
 pub record IsUnsound (text : List ℕ) (r : Refusal) : Type 0 where
   pub line : ℕ
   pub is_first : IsRangeLine text line
-  pub refusal : r ≡ range_refusal line
+  pub refusal : r ≡ object_refusal line (Range line)
 
 -- and that of sound objects, at the refusal of their layout
 pub record IsUnlinkable (text : List ℕ) (r : Refusal) : Type 0 where

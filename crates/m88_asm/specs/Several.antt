@@ -69,7 +69,6 @@ LacksPrograms most input r = HasTooMany most input r ⊎ HasRefusedSource most i
 -- the programs of some sources, one of each in its place, with MXM clear
 unfoldable pub AreSourcePrograms : List PlacedSource → List Program → Type 0
 AreSourcePrograms [] [] = Unit {0}
-AreSourcePrograms [] (p ∷ programs) = ⊥
-AreSourcePrograms (s ∷ sources) [] = ⊥
 AreSourcePrograms (s ∷ sources) (p ∷ programs) =
     IsSourceProgram s.source p × (p.mxm ≡ false) × AreSourcePrograms sources programs
+AreSourcePrograms _ _ = ⊥

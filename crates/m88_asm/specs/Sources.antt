@@ -57,18 +57,12 @@ pub record HoldsOfProgram (source : List ℕ) (Holds : Program → Type 0) : Typ
 -- why a statement can't be laid out, of a source behind n lines: the first definition of a name stands behind them too
 abbrev pub asm_kind_behind : ℕ → AsmKind → AsmKind
 asm_kind_behind n (asm.Duplicate name first) = asm.Duplicate name (n + first)
-asm_kind_behind n asm.Alignment = asm.Alignment
-asm_kind_behind n asm.TooLarge = asm.TooLarge
-asm_kind_behind n asm.Memory = asm.Memory
+asm_kind_behind n kind = kind
 
 -- why a layout has no image, behind n lines
 abbrev pub link_kind_behind : ℕ → LinkKind → LinkKind
-link_kind_behind n link.TooLarge = link.TooLarge
-link_kind_behind n (link.Overlap at) = link.Overlap at
 link_kind_behind n (link.Duplicate name first) = link.Duplicate name (n + first)
-link_kind_behind n (link.Undefined name) = link.Undefined name
-link_kind_behind n (link.TooFar distance) = link.TooFar distance
-link_kind_behind n link.Memory = link.Memory
+link_kind_behind n kind = kind
 
 -- the refusal for a fault of the lines of a source that stands behind n lines of its input, none where it is the whole
 -- input: each line is counted from the first of the input
