@@ -20,7 +20,7 @@ use Rattle.m88_link.specs.Bases.{Placement, base_at, first_text, stood_from, tex
 use Rattle.m88_link.specs.Sound.{origin}
 use Rattle.m88_link.specs.Symbols.{repeated_after}
 use Rattle.m88_asm.specs.Counters.{Counters, Located, after, at_begin, at_section, located, offset_here, place_here}
-use Rattle.m88_asm.specs.Inside.Drafts.{IsOpen, counters_of, empty_growth, no_section, with_statements}
+use Rattle.m88_asm.specs.Inside.Drafts.{HasSections, counters_of, empty_growth, no_section, with_statements}
 use Rattle.m88_asm.specs.Faults.{IsAssembled, alignment_of, misfit_at, misplaced_at, statements_fault, module_fault, modules_fault, too_large_at}
 use Rattle.m88_asm.specs.Images.{code_at, code_in, first_of, module_code, placed_instruction}
 use Rattle.m88_asm.specs.Objects.{Head, heads_in, sections_in, symbols_of}
@@ -101,7 +101,7 @@ ends_with : (m : Module) (k : ℕ) → k < (counters_after at_begin m.statements
 ends_with m k l =
     let start = empty_growth m.line in
     let end = with_statements start m.statements in
-    let opened : IsOpen start.sections start.here = record { both = omega arith; stands = omega arith } in
+    let opened : HasSections start.sections start.here = record { both = omega arith; stands = omega arith } in
     let same : end.sections ≡ sections_in m = ap (λ (o : Object). o.sections) (grown_object m) in
     let counters : counters_of end.sections end.here ≡ counters_after at_begin m.statements =
     counters_grown start m.statements opened ∙ ap (λ c. counters_after c m.statements) (counters_empty m.line) in

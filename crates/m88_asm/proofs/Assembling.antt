@@ -18,7 +18,7 @@ use Rattle.m88_link.specs.declared.object.Section.{Section}
 use Rattle.m88_base.specs.Image.{most_bytes}
 use Rattle.m88_link.specs.Sound.{HasRoom, origin}
 use Rattle.m88_asm.specs.Counters.{Counters, Located, with_length, after, at_begin, at_body, at_section, length_at, located, offset_here, place_here}
-use Rattle.m88_asm.specs.Inside.Drafts.{Growth, IsOpen, counters_of, empty_growth, next_row, no_section, nth, section_at, sections_at, with_bytes, with_statement, with_statements}
+use Rattle.m88_asm.specs.Inside.Drafts.{Growth, HasSections, counters_of, empty_growth, next_row, no_section, nth, section_at, sections_at, with_bytes, with_statement, with_statements}
 use Rattle.m88_asm.specs.Faults.{misfit_at, misplaced_at, too_large_at}
 use Rattle.m88_asm.specs.Filled.{waiting_bytes}
 use Rattle.m88_asm.specs.Objects.{Head, heads_in, lines_in, marked, object_of, opens, opened_by, section_bytes, section_under, sections_in, symbols_in, symbols_of, uses_in_body, symbol_uses, waiting_in}
@@ -114,7 +114,7 @@ counters_filled sections here w l =
     (λ k. ap (λ (x : Section). length x.bytes) (nth_set sections here k s l) ∙ through_if (λ (x : Section). length x.bytes) (here == k) s (nth sections k)
     ∙ ap (λ n. if here == k then n else length (nth sections k).bytes) (length-append (nth sections here).bytes w))
 
-open_entered : (line : ℕ) (sections : List Section) (here : ℕ) (b : Body) → IsOpen sections here → IsOpen (sections_at line sections b) (section_at here sections b)
+open_entered : (line : ℕ) (sections : List Section) (here : ℕ) (b : Body) → HasSections sections here → HasSections (sections_at line sections b) (section_at here sections b)
 open_entered line sections here body.Text o = record { both = o.both; stands = omega (arith, o.both) }
 open_entered line sections here body.DataSection o = record { both = o.both; stands = omega (arith, o.both) }
 open_entered line sections here (body.At a) o =
@@ -122,7 +122,7 @@ open_entered line sections here (body.At a) o =
     record { both = omega (arith, o.both, n); stands = omega (arith, o.both, n) }
 open_entered line sections here _ o = o
 
-pub open_next : (g : Growth) (x : Statement) → IsOpen g.sections g.here → IsOpen (with_statement g x).sections (with_statement g x).here
+pub open_next : (g : Growth) (x : Statement) → HasSections g.sections g.here → HasSections (with_statement g x).sections (with_statement g x).here
 open_next g x o =
     let p = open_entered x.line g.sections g.here x.body o in
     let sections = sections_at x.line g.sections x.body in
@@ -134,7 +134,7 @@ open_next g x o =
 entered_next : (g : Growth) (x : Statement) → counters_of (sections_at x.line g.sections x.body) (section_at g.here g.sections x.body) ≡ at_body (next_row g x)
 entered_next g x = counters_entered x.line g.sections g.here x.body
 
-pub counters_next : (g : Growth) (x : Statement) → IsOpen g.sections g.here
+pub counters_next : (g : Growth) (x : Statement) → HasSections g.sections g.here
     → counters_of (with_statement g x).sections (with_statement g x).here ≡ after (counters_of g.sections g.here) x.body
 counters_next g x o =
     let sections = sections_at x.line g.sections x.body in
@@ -144,7 +144,7 @@ counters_next g x o =
     ∙ ap (with_length (counters_of sections here)) (length-waiting_bytes (place_here (counters_of sections here)) x.body)
     ∙ ap (λ c. with_length c (length_at (place_here c) x.body)) (entered_next g x)
 
-bytes_next : (g : Growth) (x : Statement) (k : ℕ) → IsOpen g.sections g.here
+bytes_next : (g : Growth) (x : Statement) (k : ℕ) → HasSections g.sections g.here
     → (nth (with_statement g x).sections k).bytes ≡ (nth g.sections k).bytes ++ waiting_in k (next_row g x)
 bytes_next g x k o =
     let sections = sections_at x.line g.sections x.body in
@@ -188,7 +188,7 @@ pub record Grown (g : Growth) (rows : List Located) (end : Growth) : Type 0 wher
   pub bytes : (k : ℕ) → (nth end.sections k).bytes ≡ (nth g.sections k).bytes ++ flat_map (waiting_in k) rows
   pub heads : map head_of end.sections ≡ map head_of g.sections ++ flat_map opens rows
 
-pub grown : (g : Growth) (xs : List Statement) → IsOpen g.sections g.here → Grown g (located (counters_of g.sections g.here) xs) (with_statements g xs)
+pub grown : (g : Growth) (xs : List Statement) → HasSections g.sections g.here → Grown g (located (counters_of g.sections g.here) xs) (with_statements g xs)
 unfolding located with_statements
 grown g [] o = record {
   symbols = sym (append-nil g.symbols);

@@ -9,7 +9,7 @@ use Rattle.m88_link.specs.declared.object.Place.TheVariants as place
 use Rattle.m88_link.specs.declared.object.Section.{Section}
 use Rattle.m88_asm.specs.declared.fault.AsmFault.{AsmFault}
 use Rattle.m88_asm.specs.Counters.{after, at_begin, located, place_here}
-use Rattle.m88_asm.specs.Inside.Drafts.{Growth, IsOpen, counters_of, empty_growth, next_row, nth, section_at, sections_at, with_bytes, with_statement, with_statements}
+use Rattle.m88_asm.specs.Inside.Drafts.{Growth, HasSections, counters_of, empty_growth, next_row, nth, section_at, sections_at, with_bytes, with_statement, with_statements}
 use Rattle.m88_asm.specs.Faults.{fault_in, statements_fault}
 use Rattle.m88_asm.specs.Filled.{waiting_bytes}
 use Rattle.m88_asm.proofs.Assembling.{counters_next, open_next}
@@ -22,7 +22,7 @@ next_of xs i x d h e = drop-cons xs i d h ∙ ap (λ y. y ∷ drop (suc i) xs) (
 abbrev pub fault_from : Growth → List Statement → Option AsmFault
 fault_from g xs = statements_fault g.symbols (located (counters_of g.sections g.here) xs)
 
-pub fault_goes_on : (g : Growth) (x : Statement) (xs : List Statement) → IsOpen g.sections g.here → fault_in g.symbols (next_row g x) ≡ None
+pub fault_goes_on : (g : Growth) (x : Statement) (xs : List Statement) → HasSections g.sections g.here → fault_in g.symbols (next_row g x) ≡ None
     → fault_from (with_statement g x) xs ≡ fault_from g (x ∷ xs)
 unfolding statements_fault located
 fault_goes_on g x xs o h =
@@ -53,7 +53,7 @@ few_next g x =
 pub record Rest (line : ℕ) (all : List Statement) (i : ℕ) (g : Growth) : Type 0 where
   pub whole : with_statements g (drop i all) ≡ with_statements (empty_growth line) all
   pub faults : fault_from g (drop i all) ≡ statements_fault [] (located at_begin all)
-  pub opened : IsOpen g.sections g.here
+  pub opened : HasSections g.sections g.here
   pub few : length g.sections ≤ i + 2
 
 pub rest_goes_on : (line : ℕ) (all : List Statement) (i : ℕ) (g new : Growth) (x d : Statement) → i < length all → x ≡ get_or all i d → Rest line all i g

@@ -21,7 +21,7 @@ use Rattle.m88_link.specs.declared.object.Symbol.{Symbol}
 use Rattle.m88_link.specs.Sound.{AreSections, HasRoom, IsDefinedIn, IsOwnAddress, IsPatchIn, IsGlobalIfStart, IsSound, origin, start_name}
 use Rattle.m88_link.specs.Symbols.{Repetition, first_repeated, repeated_after, repetition, symbol_of}
 use Rattle.m88_asm.specs.Counters.{Counters, Located, with_length, after, at_begin, at_section, length_at, located, offset_here, place_here}
-use Rattle.m88_asm.specs.Inside.Drafts.{Growth, IsOpen, counters_of, empty_growth, no_section, nth, with_statement, with_statements}
+use Rattle.m88_asm.specs.Inside.Drafts.{Growth, HasSections, counters_of, empty_growth, no_section, nth, with_statement, with_statements}
 use Rattle.m88_asm.specs.Faults.{alignment_of, fault_in, statements_fault, misfit_at, misplaced_at, module_fault, too_large_at}
 use Rattle.m88_asm.specs.Objects.{Head, labels_at, lines_in, marked, object_of, opened_by, opens, section_under, sections_in, sets_at, symbols_of, uses_in_body, uses_in_values, symbol_uses}
 use Rattle.m88_asm.proofs.Assembling.{counters_empty, counters_next, grown_object, none_of_both, open_next}
@@ -177,7 +177,7 @@ rows_sound defined c (x ∷ xs) s h =
     )
 
 -- the counters of what statements grow to
-pub counters_grown : (g : Growth) (xs : List Statement) → IsOpen g.sections g.here
+pub counters_grown : (g : Growth) (xs : List Statement) → HasSections g.sections g.here
     → counters_of (with_statements g xs).sections (with_statements g xs).here ≡ counters_after (counters_of g.sections g.here) xs
 unfolding with_statements counters_after
 counters_grown g [] o = refl
@@ -251,7 +251,7 @@ pub sound_object : (m : Module) → module_fault m ≡ None → first_repeated (
 sound_object m clean names room =
     let start = empty_growth m.line in
     let end = with_statements start m.statements in
-    let opened : IsOpen start.sections start.here = record { both = omega arith; stands = omega arith } in
+    let opened : HasSections start.sections start.here = record { both = omega arith; stands = omega arith } in
     let same : end.sections ≡ sections_in m = ap (λ (o : Object). o.sections) (grown_object m) in
     let counters : counters_of end.sections end.here ≡ counters_after at_begin m.statements =
     counters_grown start m.statements opened ∙ ap (λ c. counters_after c m.statements) (counters_empty m.line) in

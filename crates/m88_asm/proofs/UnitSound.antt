@@ -15,7 +15,7 @@ use Rattle.m88_link.specs.declared.object.Symbol.{Symbol}
 use Rattle.m88_asm.proofs.Assembling.{counters_empty, grown_object, none_of_both}
 use Rattle.m88_asm.proofs.Sounding.{counters_after, counters_grown, first_parts, sound_object}
 use Rattle.m88_asm.specs.Counters.{Counters, Located, after, at_begin, at_section, here_at, length_at, located, offset_here, place_here}
-use Rattle.m88_asm.specs.Inside.Drafts.{IsOpen, counters_of, empty_growth, no_section, with_statements}
+use Rattle.m88_asm.specs.Inside.Drafts.{HasSections, counters_of, empty_growth, no_section, with_statements}
 use Rattle.m88_asm.specs.Faults.{duplicate_at, fault_in, misfit_at, misplaced_at, module_fault, modules_fault, statements_fault, too_large_at}
 use Rattle.m88_asm.specs.Objects.{object_of, sections_in, symbols_of}
 use Rattle.m88_asm.specs.declared.fault.AsmFault.{AsmFault}
@@ -84,7 +84,7 @@ module_room : (m : Module) → module_fault m ≡ None → All HasRoom (sections
 module_room m clean =
     let start = empty_growth m.line in
     let end = with_statements start m.statements in
-    let opened : IsOpen start.sections start.here = record { both = omega arith; stands = omega arith } in
+    let opened : HasSections start.sections start.here = record { both = omega arith; stands = omega arith } in
     let same : end.sections ≡ sections_in m = ap (λ (o : Object). o.sections) (grown_object m) in
     let counters : counters_of end.sections end.here ≡ counters_after at_begin m.statements =
     counters_grown start m.statements opened ∙ ap (λ c. counters_after c m.statements) (counters_empty m.line) in

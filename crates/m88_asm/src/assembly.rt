@@ -35,7 +35,7 @@ pub(crate) struct Assembly {
 }
 
 impl Model for Assembly {
-    ghost use Rattle.m88_asm.specs.Inside.Drafts.{Growth, IsOpen};
+    ghost use Rattle.m88_asm.specs.Inside.Drafts.{Growth, HasSections};
 
     ghost Value = { Growth };
 
@@ -46,7 +46,7 @@ impl Model for Assembly {
       uses = a.uses.items;
     } };
 
-    ghost invariant = { λ a. IsOpen a.sections.items a.here };
+    ghost invariant = { λ a. HasSections a.sections.items a.here };
 }
 
 impl Assembly {

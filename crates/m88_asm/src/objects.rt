@@ -1,5 +1,5 @@
 //! The objects of a unit.
-ghost use Rattle.std.specs.Prelude.{◌≡◌, ◌⊎◌, ◌^◌, ◌<◌, ℕ, [], None, Some, count_by, is_some, length, map, slice_get, take, Contains, IfErr, IfOk, OnOk};
+ghost use Rattle.std.specs.Prelude.{◌≡◌, ◌⊎◌, ◌^◌, ◌<◌, ℕ, [], Some, count_by, is_some, length, map, slice_get, take, Contains, IfErr, IfOk, OnOk};
 ghost use Rattle.std.specs.List.{All, sum_by};
 ghost use Rattle.m88_parse.specs.WellFormed.{IsFormedModule, IsFormedStatement, IsWellFormed};
 ghost use Rattle.m88_link.specs.Sound.{IsSound};

@@ -104,6 +104,6 @@ empty_growth line = record {
 }
 
 -- text and data are there, and the section that stands is one of those that are
-pub record IsOpen (sections : List Section) (here : ℕ) : Type 0 where
+pub record HasSections (sections : List Section) (here : ℕ) : Type 0 where
   pub both : 2 ≤ length sections
   pub stands : here < length sections
