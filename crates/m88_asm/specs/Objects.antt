@@ -68,14 +68,9 @@ sections_in m = map (section_under m) (enumerate_from 0 (heads_in m))
 -- a label is the next byte of its section, before what else its line does
 abbrev pub labels_at : Counters → ℕ → Option (List ℕ × ℕ) → List Symbol
 labels_at c line None = []
-labels_at c line (Some label) = record {
-  name = label.0;
-  global = false;
-  section = Some c.here;
-  value = offset_here c;
-  line = line;
-  col = label.1;
-} ∷ []
+labels_at c line (Some label) =
+    record { name = label.0; global = false; section = Some c.here; value = offset_here c; line = line; col = label.1 }
+    ∷ []
 
 -- the symbol of a `.set` is its number
 abbrev pub sets_at : ℕ → Body → List Symbol
@@ -111,15 +106,8 @@ symbols_in m = map (marked m.statements) (flat_map symbols_of (lines_in m))
 
 -- the use of a symbol in a word
 abbrev pub use_at : Kind → ℕ → ℕ → ℕ → Fixup → Reloc
-use_at kind section offset line f = record {
-  kind = kind;
-  section = section;
-  offset = offset;
-  symbol = f.symbol;
-  addend = f.addend;
-  line = line;
-  col = f.col;
-}
+use_at kind k offset line f =
+    record { kind = kind; section = k; offset = offset; symbol = f.symbol; addend = f.addend; line = line; col = f.col }
 
 -- the use of a symbol in a word of `.word`
 abbrev pub use_in_value : ℕ → ℕ → ℕ → Value → List Reloc
