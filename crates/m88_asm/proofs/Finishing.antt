@@ -21,7 +21,7 @@ module _ (m : Module) (xs : List Statement) (g : Growth) (same : xs ≡ m.statem
   whole : g ≡ with_statements (empty_growth m.line) m.statements
   whole = grown ∙ ap (with_statements (empty_growth m.line)) same
 
-  pub finished_object : (is_declared : List ℕ → Bool) (o : Object) → ((name : List ℕ) → is_declared name ≡ list_any (declares name) xs)
+  pub finished_object : (is_declared : List ℕ → Bool) (o : Object) → ((name : List ℕ) → is_declared name ≡ list_any (λ x. declares name x.body) xs)
       → o ≡ record { name = m.name; sections = g.sections; symbols = map (marked_where is_declared) g.symbols; relocs = g.uses }
       → o ≡ object_of m
   finished_object is_declared o declared made =

@@ -82,19 +82,15 @@ sets_at line _ = []
 abbrev pub symbols_of : Located → List Symbol
 symbols_of r = labels_at r.before r.statement.line r.statement.label ++ sets_at r.statement.line r.statement.body
 
--- a statement is the `.global` of a name
-abbrev pub body_declares : List ℕ → Body → Bool
-body_declares name (Global declared) = bytes_eq declared name
-body_declares name _ = false
-
--- a statement is the `.global` of a name
-abbrev pub declares : List ℕ → Statement → Bool
-declares name x = body_declares name x.body
+-- a statement is the `.global` of a name, by its body
+abbrev pub declares : List ℕ → Body → Bool
+declares name (Global declared) = bytes_eq declared name
+declares name _ = false
 
 -- a name is global: `_start` always is, another where a `.global` of the module names it, before or after its
 -- definition
 abbrev pub is_global : List Statement → List ℕ → Bool
-is_global statements name = bytes_eq name start_name || list_any (declares name) statements
+is_global statements name = bytes_eq name start_name || list_any (λ x. declares name x.body) statements
 
 -- a symbol of a module, marked as global or not
 abbrev pub marked : List Statement → Symbol → Symbol

@@ -4,7 +4,7 @@ ghost use Rattle.std.specs.List.{list_any};
 ghost use Rattle.indexmap.specs.IndexSet.{contains};
 ghost use Rattle.m88_link.specs.Sound.{start_name};
 ghost use Rattle.m88_asm.specs.Inside.Exports.{marked_where};
-ghost use Rattle.m88_asm.specs.Objects.{body_declares, declares};
+ghost use Rattle.m88_asm.specs.Objects.{declares};
 
 use indexmap::IndexSet;
 use m88_base::Name;
@@ -16,7 +16,7 @@ use std::alloc::{AllocError, Global};
 fn note(names: &mut IndexSet<Name>, body: &Body) -> Result<(), AllocError>
     ensures { OnOk result ((name : List ℕ)
         → contains bytes_eq names.new name
-        ≡ (contains bytes_eq names.old name || body_declares name body.now)) }
+        ≡ (contains bytes_eq names.old name || declares name body.now)) }
 {
     match body {
         Body::Global(name) => {
@@ -33,7 +33,7 @@ pub(crate) fn declared(
     statements: &[Statement],
 ) -> Result<IndexSet<Name>, AllocError>
     ensures { IfOk result (λ names. (name : List ℕ)
-        → contains bytes_eq names name ≡ list_any (declares name) statements.now) }
+        → contains bytes_eq names name ≡ list_any (λ x. declares name x.body) statements.now) }
 {
     let mut names = IndexSet::new(alloc);
     for x in statements {

@@ -3,6 +3,7 @@ use Rattle.std.proofs.Common.{◌∙◌, ap}
 use Rattle.std.specs.Prelude.{bytes_eq}
 use Rattle.std.specs.List.{list_any}
 use Rattle.indexmap.specs.IndexSet.{contains}
+use Rattle.m88_parse.specs.declared.unit.Statement.{Statement}
 use Rattle.m88_asm.specs.Objects.{declares}
 use Rattle.m88_asm.proofs.Finishing.{finished_clean, finished_object, finished_sound}
 use Rattle.m88_asm.proofs.objects.consume_module.Goals as goal
@@ -15,7 +16,7 @@ returns-in-Ok c =
     let is =
     finished_object m xs c.in-Ok.assembly c.into_items-statements.ensures grown (contains bytes_eq c.in_ok-names.names)
     c.in_ok-into_object-in-Ok.field-0
-    (λ name. c.in_ok-names.ensures name ∙ ap (λ ys. list_any (declares name) ys) c.deref.ensures.value)
+    (λ name. c.in_ok-names.ensures name ∙ ap (list_any (λ (x : Statement). declares name x.body)) c.deref.ensures.value)
     c.in_ok-into_object-in-Ok.ensures.value in
     record {
       right = (
