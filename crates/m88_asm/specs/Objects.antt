@@ -133,12 +133,8 @@ symbol_uses r = uses_in_body (section_of r) (offset_of r) r.statement.line r.sta
 
 -- the object of a module
 abbrev pub object_of : Module → Object
-object_of m = record {
-  name = m.name;
-  sections = sections_in m;
-  symbols = symbols_in m;
-  relocs = flat_map symbol_uses (lines_in m);
-}
+object_of m =
+    record { name = m.name; sections = sections_in m; symbols = symbols_in m; relocs = flat_map symbol_uses (lines_in m) }
 
 -- the objects of a unit, one for each module
 abbrev pub objects_of : Source → List Object
