@@ -58,7 +58,7 @@ starts_at c _ = c.starts
 abbrev pub at_section : Counters → Body → Counters
 at_section c body = record c { here = here_at c body; count = count_at c body; starts = starts_at c body }
 
--- the number of bytes that the section that stands has, and the place that alignment goes by
+-- the number of bytes that the section that stands has
 abbrev pub offset_here : Counters → ℕ
 offset_here c = c.lengths c.here
 
@@ -103,7 +103,7 @@ located c (x ∷ xs) = record { before = c; statement = x } ∷ located (after c
 abbrev pub at_body : Located → Counters
 at_body r = at_section r.before r.statement.body
 
--- the number of a statement's section, the offset of its first byte there, and the place that its alignment goes by
+-- the number of a statement's section
 abbrev pub section_of : Located → ℕ
 section_of r = here_at r.before r.statement.body
 

@@ -45,7 +45,7 @@ abbrev pub resolved : (List ℕ → ℕ) → ℕ → Instr → Option Fixup → 
 resolved value address instr None = instr
 resolved value address instr (Some f) = with_field instr f.kind (target value f) address
 
--- a word of `.word` whose symbol is still to come, and with its symbol replaced
+-- a word of `.word`, 0 where its symbol is still to come
 abbrev pub waiting_word : Value → ℕ
 waiting_word (Number n) = n
 waiting_word (Symbol f) = 0

@@ -14,7 +14,7 @@ use Rattle.m88_asm.specs.Counters.{Located, length_of, offset_of, place_of, sect
 use Rattle.m88_asm.specs.Filled.{filled_bytes}
 use Rattle.m88_asm.specs.Objects.{Head, heads_in, lines_in, symbols_in, symbol_uses}
 
--- the number of bytes that a statement gives to section k, and that section k of a module has
+-- the number of bytes that a statement gives to section k
 abbrev pub length_in : ℕ → Located → ℕ
 length_in k r = if section_of r == k then length_of r else 0
 
