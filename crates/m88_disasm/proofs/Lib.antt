@@ -1,5 +1,6 @@
 -- What only helps the proofs: code, then texts read, then listings read and laid out; Laws is for those above.
 pub mod Names
+pub mod Operands
 pub mod Lines
 pub mod Sizes
 pub mod OneListing

@@ -1,5 +1,5 @@
 -- Instructions whose text is a short line by itself that says them.
-use Rattle.std.proofs.Common.{◌≡◌, ℕ, ◌+◌, ◌^◌, ◌<◌, ◌≤◌, List, [], ◌∷◌, ◌++◌, length, refl, arith, length-append, decimal}
+use Rattle.std.proofs.Common.{◌≡◌, ℕ, ◌^◌, ◌<◌, ◌≤◌, List, [], ◌∷◌, ◌++◌, length, refl, arith, length-append, decimal}
 use Rattle.std.specs.Prelude.{None}
 use Rattle.std.proofs.lemmas.Fmt.{length-decimal-le}
 use Rattle.m88_base.specs.Reg.{number_of}

@@ -5,6 +5,7 @@
 
 mod lister;
 mod mnemonics;
+mod operand;
 mod put;
 mod text;
 

@@ -1,6 +1,5 @@
 //! The parts of an instruction's text.
-ghost use Rattle.std.specs.Prelude.{◌≡◌, ◌+◌, ◌≤◌, ◌++◌, codes, length};
-ghost use Rattle.m88_isa.specs.Instr.{FitsWords};
+ghost use Rattle.std.specs.Prelude.{◌≡◌, ◌+◌, ◌^◌, ◌≤◌, ◌++◌, codes, length, unsigned_abs};
 ghost use Rattle.m88_isa.specs.Mnemonic.{text_of};
 ghost use Rattle.m88_disasm.specs.Text.{condition, control, field, register_name, scaled, target_operand};
 
@@ -50,7 +49,8 @@ pub fn put_register(text: &mut InstrText, r: Reg)
 /// Appends a register and the one that is scaled.
 pub fn put_scaled(text: &mut InstrText, s1: Reg, s2: Reg)
     requires { length text.old.bytes + 10 ≤ MOST_TEXT }
-    ensures { text.new.bytes ≡ text.old.bytes ++ scaled s1 s2 }
+    ensures bytes { text.new.bytes ≡ text.old.bytes ++ scaled s1 s2 }
+    ensures room { length text.new.bytes ≤ length text.old.bytes + 10 }
 {
     put_register(text, s1);
     text.push_str("[");
@@ -61,7 +61,8 @@ pub fn put_scaled(text: &mut InstrText, s1: Reg, s2: Reg)
 /// Appends a control register.
 pub fn put_control(text: &mut InstrText, float: bool, cr: u8)
     requires { length text.old.bytes + 6 ≤ MOST_TEXT }
-    ensures { text.new.bytes ≡ text.old.bytes ++ control float cr }
+    ensures bytes { text.new.bytes ≡ text.old.bytes ++ control float cr }
+    ensures room { length text.new.bytes ≤ length text.old.bytes + 6 }
 {
     text.push_str(if float { "fcr" } else { "cr" });
     put_number(text, cr);
@@ -70,7 +71,8 @@ pub fn put_control(text: &mut InstrText, float: bool, cr: u8)
 /// Appends a bit field.
 pub fn put_field(text: &mut InstrText, op: BitOp, width: u8, offset: u8)
     requires { length text.old.bytes + 8 ≤ MOST_TEXT }
-    ensures { text.new.bytes ≡ text.old.bytes ++ field op width offset }
+    ensures bytes { text.new.bytes ≡ text.old.bytes ++ field op width offset }
+    ensures room { length text.new.bytes ≤ length text.old.bytes + 8 }
 {
     if op != BitOp::Rot {
         put_number(text, width);
@@ -99,11 +101,14 @@ pub fn put_condition(text: &mut InstrText, mask: u8)
 }
 
 /// Appends the target that is so many words on or back.
+#[tactic(auto, using(crate::proofs::Operands::nine_digits))]
 pub fn put_target(text: &mut InstrText, words: i32)
-    requires fits { FitsWords 25 words }
-    requires room { length text.old.bytes + 12 ≤ MOST_TEXT }
-    ensures { text.new.bytes ≡ text.old.bytes ++ target_operand words }
+    requires near { unsigned_abs words ≤ 2 ^ 25 }
+    requires room { length text.old.bytes + 11 ≤ MOST_TEXT }
+    ensures bytes { text.new.bytes ≡ text.old.bytes ++ target_operand words }
+    ensures room { length text.new.bytes ≤ length text.old.bytes + 11 }
 {
     text.push_str(if words < 0 { ".-" } else { ".+" });
-    put_number(text, 4 * words.unsigned_abs());
+    let mut buffer = Buffer::new();
+    text.push_str(buffer.format(4 * words.unsigned_abs()));
 }

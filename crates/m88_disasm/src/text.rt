@@ -1,189 +1,36 @@
 //! The text of an instruction, form by form.
-ghost use Rattle.std.specs.Prelude.{◌≡◌, ◌∷◌, [], ℕ, decimal};
-ghost use Rattle.m88_isa.specs.Instr.{FitsWords, IsValid};
-ghost use Rattle.m88_disasm.specs.Read.{IsReadAs, said_body};
+ghost use Rattle.std.specs.Prelude.{◌≡◌, ◌+◌, ◌≤◌, ◌++◌, ◌∷◌, [], ℕ, codes, length};
+ghost use Rattle.m88_isa.specs.Instr.{IsValid};
 ghost use Rattle.m88_isa.specs.Mnemonic.{text_of as spelling};
-ghost use Rattle.m88_isa.specs.Names.{bits_name, bound_name, trap_cond_name, xcr_name};
-ghost use Rattle.m88_disasm.specs.Text.{condition, control, field, index_operands, instr_text, register_name, scaled, spelled, target_operand, word_text};
+ghost use Rattle.m88_disasm.specs.Read.{IsReadAs, said_body};
+ghost use Rattle.m88_disasm.specs.Text.{instr_text, spelled, word_text};
 
 use super::mnemonics::{
     of_bits, of_branch, of_branch_bit, of_branch_cond, of_find, of_imm, of_index, of_jump, of_lda,
     of_ldcr, of_mem, of_reg, of_stcr, of_trap_bit, of_xcr,
 };
-use super::put::{
-    InstrText, begun, put_condition, put_control, put_field, put_number, put_register, put_scaled,
-    put_target,
-};
+use super::operand::{Condition, Control, Field, Operand, Scaled, Target};
+use super::put::{InstrText, MOST_TEXT, begun};
 use arrayvec::ArrayString;
-use m88_base::{Reg, hex_digit};
+use m88_base::hex_digit;
 use m88_codec::encode;
-use m88_isa::{BitOp, Instr, Mnemonic};
+use m88_isa::Instr::{
+    BitLit, BitReg, BoundImm, BoundReg, Branch, BranchBit, BranchCond, Find, Imm, Jump, Lda, Ldcr,
+    MemImm, MemReg, Regs, Rte, Sfu, Stcr, TrapBit, TrapCond, Xcr,
+};
+use m88_isa::{Instr, Mnemonic};
 
-/// rD,rS1 and a number.
-fn immediate(mnemonic: Mnemonic, d: Reg, s1: Reg, imm: u16) -> InstrText
-    ensures { result.bytes ≡ spelled (spelling mnemonic)
-        (register_name d ∷ register_name s1 ∷ decimal imm ∷ []) }
+/// Appends a comma and an operand.
+fn put_next<A: Operand>(text: &mut InstrText, a: A)
+    requires { length text.old.bytes + 12 ≤ MOST_TEXT }
+    ensures bytes { text.new.bytes ≡ text.old.bytes ++ codes "," ++ A.written a }
+    ensures room { length text.new.bytes ≤ length text.old.bytes + 12 }
 {
-    let mut text = begun(mnemonic);
-    put_register(&mut text, d);
     text.push_str(",");
-    put_register(&mut text, s1);
-    text.push_str(",");
-    put_number(&mut text, imm);
-    text
+    a.put(text);
 }
 
-/// rD,rS1,rS2
-fn registers(mnemonic: Mnemonic, d: Reg, s1: Reg, s2: Reg) -> InstrText
-    ensures { result.bytes ≡ spelled (spelling mnemonic)
-        (register_name d ∷ register_name s1 ∷ register_name s2 ∷ []) }
-{
-    let mut text = begun(mnemonic);
-    put_register(&mut text, d);
-    text.push_str(",");
-    put_register(&mut text, s1);
-    text.push_str(",");
-    put_register(&mut text, s2);
-    text
-}
-
-/// rD,rS1[rS2]
-fn scaled_index(mnemonic: Mnemonic, d: Reg, s1: Reg, s2: Reg) -> InstrText
-    ensures { result.bytes ≡ spelled (spelling mnemonic) (register_name d ∷ scaled s1 s2 ∷ []) }
-{
-    let mut text = begun(mnemonic);
-    put_register(&mut text, d);
-    text.push_str(",");
-    put_scaled(&mut text, s1, s2);
-    text
-}
-
-/// rD,rS1[rS2] or rD,rS1,rS2.
-fn index(mnemonic: Mnemonic, d: Reg, s1: Reg, s2: Reg, is_scaled: bool) -> InstrText
-    ensures { result.bytes ≡ spelled (spelling mnemonic) (index_operands d s1 s2 is_scaled) }
-{
-    if is_scaled {
-        scaled_index(mnemonic, d, s1, s2)
-    } else {
-        registers(mnemonic, d, s1, s2)
-    }
-}
-
-/// rD,rS1 and a literal bit field.
-fn literal(op: BitOp, d: Reg, s1: Reg, width: u8, offset: u8) -> InstrText
-    ensures { result.bytes ≡ spelled (bits_name op)
-        (register_name d ∷ register_name s1 ∷ field op width offset ∷ []) }
-{
-    let mut text = begun(of_bits(op));
-    put_register(&mut text, d);
-    text.push_str(",");
-    put_register(&mut text, s1);
-    text.push_str(",");
-    put_field(&mut text, op, width, offset);
-    text
-}
-
-/// Two registers.
-fn pair(mnemonic: Mnemonic, first: Reg, second: Reg) -> InstrText
-    ensures { result.bytes
-        ≡ spelled (spelling mnemonic) (register_name first ∷ register_name second ∷ []) }
-{
-    let mut text = begun(mnemonic);
-    put_register(&mut text, first);
-    text.push_str(",");
-    put_register(&mut text, second);
-    text
-}
-
-/// A target.
-fn branch(mnemonic: Mnemonic, words: i32) -> InstrText
-    requires { FitsWords 25 words }
-    ensures { result.bytes ≡ spelled (spelling mnemonic) (target_operand words ∷ []) }
-{
-    let mut text = begun(mnemonic);
-    put_target(&mut text, words);
-    text
-}
-
-/// A bit, rS1 and a target.
-fn branch_on_bit(mnemonic: Mnemonic, bit: u8, s1: Reg, words: i16) -> InstrText
-    ensures { result.bytes ≡ spelled (spelling mnemonic)
-        (decimal bit ∷ register_name s1 ∷ target_operand words ∷ []) }
-{
-    let mut text = begun(mnemonic);
-    put_number(&mut text, bit);
-    text.push_str(",");
-    put_register(&mut text, s1);
-    text.push_str(",");
-    put_target(&mut text, i32::from(words));
-    text
-}
-
-/// A condition, rS1 and a target.
-fn branch_on_condition(mnemonic: Mnemonic, mask: u8, s1: Reg, words: i16) -> InstrText
-    ensures { result.bytes ≡ spelled (spelling mnemonic)
-        (condition mask ∷ register_name s1 ∷ target_operand words ∷ []) }
-{
-    let mut text = begun(mnemonic);
-    put_condition(&mut text, mask);
-    text.push_str(",");
-    put_register(&mut text, s1);
-    text.push_str(",");
-    put_target(&mut text, i32::from(words));
-    text
-}
-
-/// One register.
-fn single(mnemonic: Mnemonic, r: Reg) -> InstrText
-    ensures { result.bytes ≡ spelled (spelling mnemonic) (register_name r ∷ []) }
-{
-    let mut text = begun(mnemonic);
-    put_register(&mut text, r);
-    text
-}
-
-/// A bit, rS1 and a vector.
-fn trap_on_bit(mnemonic: Mnemonic, bit: u8, s1: Reg, vector: u16) -> InstrText
-    ensures { result.bytes ≡ spelled (spelling mnemonic)
-        (decimal bit ∷ register_name s1 ∷ decimal vector ∷ []) }
-{
-    let mut text = begun(mnemonic);
-    put_number(&mut text, bit);
-    text.push_str(",");
-    put_register(&mut text, s1);
-    text.push_str(",");
-    put_number(&mut text, vector);
-    text
-}
-
-/// A condition, rS1 and a vector.
-#[tactic(auto, unfolding(m88_isa::specs::Mnemonic::text_of))]
-fn trap_on_condition(mask: u8, s1: Reg, vector: u16) -> InstrText
-    ensures { result.bytes
-        ≡ spelled trap_cond_name (condition mask ∷ register_name s1 ∷ decimal vector ∷ []) }
-{
-    let mut text = begun(Mnemonic::Tcnd);
-    put_condition(&mut text, mask);
-    text.push_str(",");
-    put_register(&mut text, s1);
-    text.push_str(",");
-    put_number(&mut text, vector);
-    text
-}
-
-/// rS1 and a number.
-#[tactic(auto, unfolding(m88_isa::specs::Mnemonic::text_of))]
-fn bound(s1: Reg, imm: u16) -> InstrText
-    ensures { result.bytes ≡ spelled bound_name (register_name s1 ∷ decimal imm ∷ []) }
-{
-    let mut text = begun(Mnemonic::Tbnd);
-    put_register(&mut text, s1);
-    text.push_str(",");
-    put_number(&mut text, imm);
-    text
-}
-
-/// The mnemonic alone.
+/// A mnemonic without operands.
 #[tactic(auto, using(crate::proofs::Names::name_short))]
 fn alone(mnemonic: Mnemonic) -> InstrText
     ensures { result.bytes ≡ spelled (spelling mnemonic) [] }
@@ -193,28 +40,34 @@ fn alone(mnemonic: Mnemonic) -> InstrText
     text
 }
 
-/// A register and a control register.
-fn with_control(mnemonic: Mnemonic, r: Reg, float: bool, cr: u8) -> InstrText
-    ensures { result.bytes ≡ spelled (spelling mnemonic) (register_name r ∷ control float cr ∷ []) }
+/// A mnemonic and one operand.
+fn with_one<A: Operand>(mnemonic: Mnemonic, a: A) -> InstrText
+    ensures { result.bytes ≡ spelled (spelling mnemonic) (A.written a ∷ []) }
 {
     let mut text = begun(mnemonic);
-    put_register(&mut text, r);
-    text.push_str(",");
-    put_control(&mut text, float, cr);
+    a.put(&mut text);
     text
 }
 
-/// Two registers and a control register.
-fn exchange(d: Reg, s1: Reg, cr: u8, float: bool) -> InstrText
-    ensures { result.bytes ≡ spelled (xcr_name float)
-        (register_name d ∷ register_name s1 ∷ control float cr ∷ []) }
+/// A mnemonic and two operands.
+fn with_two<A: Operand, B: Operand>(mnemonic: Mnemonic, a: A, b: B) -> InstrText
+    ensures { result.bytes ≡ spelled (spelling mnemonic) (A.written a ∷ B.written b ∷ []) }
 {
-    let mut text = begun(of_xcr(float));
-    put_register(&mut text, d);
-    text.push_str(",");
-    put_register(&mut text, s1);
-    text.push_str(",");
-    put_control(&mut text, float, cr);
+    let mut text = begun(mnemonic);
+    a.put(&mut text);
+    put_next(&mut text, b);
+    text
+}
+
+/// A mnemonic and three operands.
+fn with_three<A: Operand, B: Operand, C: Operand>(mnemonic: Mnemonic, a: A, b: B, c: C) -> InstrText
+    ensures { result.bytes
+        ≡ spelled (spelling mnemonic) (A.written a ∷ B.written b ∷ C.written c ∷ []) }
+{
+    let mut text = begun(mnemonic);
+    a.put(&mut text);
+    put_next(&mut text, b);
+    put_next(&mut text, c);
     text
 }
 
@@ -230,67 +83,88 @@ fn word(word: u32) -> InstrText
     text
 }
 
-/// The text of an instruction, by its form.
+/// The text of an instruction: its mnemonic and its operands by its form, or its word.
 #[tactic(auto, unfolding(crate::specs::Text::instr_text, m88_isa::specs::Mnemonic::text_of))]
 fn by_form(instr: &Instr) -> InstrText
     requires { IsValid instr.now }
     ensures { result.bytes ≡ instr_text instr.now }
 {
     match *instr {
-        Instr::Imm { op, d, s1, imm } => immediate(of_imm(op), d, s1, imm),
-        Instr::MemImm { op, d, s1, imm } => immediate(of_mem(op), d, s1, imm),
-        Instr::Regs { op, d, s1, s2 } => registers(of_reg(op), d, s1, s2),
-        Instr::MemReg {
+        Imm { op, d, s1, imm } => with_three(of_imm(op), d, s1, imm),
+        MemImm { op, d, s1, imm } => with_three(of_mem(op), d, s1, imm),
+        MemReg {
             op,
             d,
             s1,
             s2,
             scaled,
             usr,
-        } => index(of_index(op, usr), d, s1, s2, scaled),
-        Instr::Lda { size, d, s1, s2 } => scaled_index(of_lda(size), d, s1, s2),
-        Instr::BitLit {
+        } => {
+            let mnemonic = of_index(op, usr);
+            if scaled {
+                with_two(mnemonic, d, Scaled(s1, s2))
+            } else {
+                with_three(mnemonic, d, s1, s2)
+            }
+        }
+        Lda { size, d, s1, s2 } => with_two(of_lda(size), d, Scaled(s1, s2)),
+        Regs { op, d, s1, s2 } => with_three(of_reg(op), d, s1, s2),
+        BitLit {
             op,
             d,
             s1,
             width,
             offset,
-        } => literal(op, d, s1, width, offset),
-        Instr::BitReg { op, d, s1, s2 } => registers(of_bits(op), d, s1, s2),
-        Instr::Find { ones, d, s2 } => pair(of_find(ones), d, s2),
-        Instr::Branch {
+        } => with_three(of_bits(op), d, s1, Field { op, width, offset }),
+        BitReg { op, d, s1, s2 } => with_three(of_bits(op), d, s1, s2),
+        Find { ones, d, s2 } => with_two(of_find(ones), d, s2),
+        Branch {
             link,
             delayed,
             words,
-        } => branch(of_branch(link, delayed), words),
-        Instr::BranchBit {
+        } => with_one(of_branch(link, delayed), Target::new(words)),
+        BranchBit {
             set,
             delayed,
             bit,
             s1,
             words,
-        } => branch_on_bit(of_branch_bit(set, delayed), bit, s1, words),
-        Instr::BranchCond {
+        } => {
+            with_three(
+                of_branch_bit(set, delayed),
+                bit,
+                s1,
+                Target::new(i32::from(words)),
+            )
+        }
+        BranchCond {
             delayed,
             mask,
             s1,
             words,
-        } => branch_on_condition(of_branch_cond(delayed), mask, s1, words),
-        Instr::Jump { link, delayed, s2 } => single(of_jump(link, delayed), s2),
-        Instr::TrapBit {
+        } => {
+            with_three(
+                of_branch_cond(delayed),
+                Condition(mask),
+                s1,
+                Target::new(i32::from(words)),
+            )
+        }
+        Jump { link, delayed, s2 } => with_one(of_jump(link, delayed), s2),
+        TrapBit {
             set,
             bit,
             s1,
             vector,
-        } => trap_on_bit(of_trap_bit(set), bit, s1, vector),
-        Instr::TrapCond { mask, s1, vector } => trap_on_condition(mask, s1, vector),
-        Instr::BoundImm { s1, imm } => bound(s1, imm),
-        Instr::BoundReg { s1, s2 } => pair(Mnemonic::Tbnd, s1, s2),
-        Instr::Rte => alone(Mnemonic::Rte),
-        Instr::Ldcr { d, cr, float } => with_control(of_ldcr(float), d, float, cr),
-        Instr::Stcr { s1, cr, float } => with_control(of_stcr(float), s1, float, cr),
-        Instr::Xcr { d, s1, cr, float } => exchange(d, s1, cr, float),
-        Instr::Sfu { .. } => word(encode(instr)),
+        } => with_three(of_trap_bit(set), bit, s1, vector),
+        TrapCond { mask, s1, vector } => with_three(Mnemonic::Tcnd, Condition(mask), s1, vector),
+        BoundImm { s1, imm } => with_two(Mnemonic::Tbnd, s1, imm),
+        BoundReg { s1, s2 } => with_two(Mnemonic::Tbnd, s1, s2),
+        Rte => alone(Mnemonic::Rte),
+        Ldcr { d, cr, float } => with_two(of_ldcr(float), d, Control { float, cr }),
+        Stcr { s1, cr, float } => with_two(of_stcr(float), s1, Control { float, cr }),
+        Xcr { d, s1, cr, float } => with_three(of_xcr(float), d, s1, Control { float, cr }),
+        Sfu { .. } => word(encode(instr)),
     }
 }
 
