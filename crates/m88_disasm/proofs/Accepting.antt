@@ -1,26 +1,26 @@
--- The statements of a listing meet no fault, open the sections of the parts, and define and use no symbol.
-use Rattle.std.proofs.Common.{◌≡◌, ℕ, ◌+◌, ◌%◌, ◌≤◌, ◌^◌, Bool, ◌||◌, nat_lt, List, [], ◌∷◌, ◌++◌, length, refl, sym, ap, subst, ◌∙◌, arith, eq-eqb, le-ltb, length-append, append_assoc}
+-- Statements that give the bytes of parts fit where they stand, and open the sections of the parts.
+use Rattle.std.proofs.Common.{◌≡◌, ℕ, ◌+◌, ◌%◌, ◌≤◌, ◌^◌, Bool, false, ◌||◌, nat_lt, List, [], ◌∷◌, ◌++◌, length, refl, sym, ap, subst, ◌∙◌, arith, eq-eqb, le-ltb, length-append, append_assoc}
 use Rattle.std.specs.Prelude.{Option, None, Some, flat_map, if◌then◌else◌, slice_get}
-use Rattle.std.specs.Option.{option_map_or, option_or}
+use Rattle.std.specs.List.{list_any}
+use Rattle.std.specs.Option.{option_map, option_map_or, option_or}
 use Rattle.m88_base.specs.Image.{most_bytes}
 use Rattle.m88_base.specs.Placed.{Placed}
-use Rattle.m88_parse.specs.declared.unit.Body.{Body}
 use Rattle.m88_parse.specs.declared.unit.Body.TheVariants as body
 use Rattle.m88_parse.specs.declared.unit.Statement.{Statement}
 use Rattle.m88_link.specs.declared.object.Place.TheVariants.{At}
-use Rattle.m88_link.specs.declared.object.Reloc.{Reloc}
 use Rattle.m88_link.specs.declared.object.Symbol.{Symbol}
 use Rattle.m88_asm.specs.declared.fault.AsmFault.{AsmFault}
 use Rattle.m88_asm.specs.declared.fault.AsmKind.TheVariants as kind
-use Rattle.m88_asm.specs.Counters.{Counters, Located, after, length_at, located, place_of}
-use Rattle.m88_asm.specs.Faults.{alignment_of, fault_in, misfit_at, misplaced_at, statements_fault, too_large_at}
-use Rattle.m88_asm.specs.Objects.{Head, heads_in, opened_by, opens, sets_at, symbols_of, symbol_uses}
+use Rattle.m88_asm.specs.Counters.{Counters, Located, after, length_at, located, offset_here, offset_of, place_here, place_of}
+use Rattle.m88_asm.specs.Faults.{alignment_of, duplicate_at, fault_in, misfit_at, misplaced_at, statements_fault, too_large_at}
+use Rattle.m88_link.specs.Symbols.{Repetition, repeated_after}
+use Rattle.m88_asm.specs.Objects.{Head, declares, heads_in, opened_by, opens, symbols_of}
 use Rattle.m88_link.specs.Bases.{Placement, base_at}
 use Rattle.m88_parse.specs.declared.unit.Module.{Module}
 use Rattle.m88_disasm.specs.Read.{unlabelled}
-use Rattle.m88_disasm.proofs.Bodies.{ArePieces, Data, Gives, PartsData, a_byte, a_code, a_word, more_data, more_parts, no_data, no_parts}
-use Rattle.m88_disasm.proofs.Rows.{numbered}
-use Rattle.m88_disasm.proofs.Standing.{Bases, Fresh, Stands, fresh_behind, located_cons, located_none, opens_part, put_same, stands_behind}
+use Rattle.m88_disasm.proofs.Bodies.{ArePieces}
+use Rattle.m88_disasm.proofs.Given.{Data, Names, PartsData, Sets, a_set, more_data, more_parts, no_data, no_parts, no_set}
+use Rattle.m88_disasm.proofs.Standing.{Bases, Empty, Fresh, Stands, empty_behind, fresh_behind, located_cons, located_none, opens_part, put_same, stands_behind}
 
 -- a statement that fits where it stands
 fits : (offset place : ℕ) (x : Statement) → place % alignment_of x.body ≡ 0
@@ -38,20 +38,6 @@ fits offset place x stands few low =
     (le-ltb (2 ^ 32) (place + length_at place x.body) low) in
     ap (λ (o : Option AsmFault). option_or o (too_large_at offset place x)) misplaced ∙ large
 
--- the length of a body that gives bytes
-gives_length : (place : ℕ) (b : Body) (given : List ℕ) → Gives b given → length_at place b ≡ length given
-gives_length place _ _ (a_code i) = refl
-gives_length place _ _ (a_word w) = refl
-gives_length place _ _ (a_byte b) = refl
-
--- a statement that gives bytes defines nothing
-data_fault : (defined : List Symbol) (c : Counters) (n : ℕ) (b : Body) (given : List ℕ) → Gives b given
-    → fault_in defined (record { before = c; statement = unlabelled n b })
-    ≡ misfit_at (c.lengths c.here) (c.starts c.here + c.lengths c.here) (unlabelled n b)
-data_fault defined c n _ _ (a_code i) = refl
-data_fault defined c n _ _ (a_word w) = refl
-data_fault defined c n _ _ (a_byte b) = refl
-
 pub faults_cons : (defined : List Symbol) (r : Located) (rs : List Located) → fault_in defined r ≡ None
     → statements_fault (defined ++ symbols_of r) rs ≡ None → statements_fault defined (r ∷ rs) ≡ None
 unfolding statements_fault
@@ -62,52 +48,71 @@ no_faults : (defined : List Symbol) → statements_fault defined [] ≡ None
 unfolding statements_fault
 no_faults defined = refl
 
-data_faults : (k at done : ℕ) (c : Counters) (n from : ℕ) (bytes : List ℕ) (own more : List Body)
-    (defined : List Symbol)
+-- no statement defines what is defined before
+abbrev pub AreNew : List Symbol → List Located → Type 0
+AreNew defined [] = Unit {0}
+AreNew defined (r ∷ rs) = (repeated_after defined (symbols_of r) ≡ None) × AreNew (defined ++ symbols_of r) rs
+
+-- each statement fits where it stands
+abbrev pub AreFitting : List Located → Type 0
+AreFitting [] = Unit {0}
+AreFitting (r ∷ rs) = (misfit_at (offset_of r) (place_of r) r.statement ≡ None) × AreFitting rs
+
+-- then they meet no fault
+pub faultless : (defined : List Symbol) (rs : List Located) → AreNew defined rs → AreFitting rs
+    → statements_fault defined rs ≡ None
+faultless defined [] new fit = no_faults defined
+faultless defined (r ∷ rs) new fit =
+    faults_cons defined r rs
+    (ap (λ (o : Option Repetition). option_or (option_map duplicate_at o) (misfit_at (offset_of r) (place_of r) r.statement))
+    new.0 ∙ fit.0)
+    (faultless (defined ++ symbols_of r) rs new.1 fit.1)
+
+fitting_cons : (c : Counters) (x : Statement) (xs : List Statement)
+    → misfit_at (offset_of (record { before = c; statement = x })) (place_of (record { before = c; statement = x })) x ≡ None
+    → AreFitting (located (after c x.body) xs) → AreFitting (located c (x ∷ xs))
+fitting_cons c x xs first others = subst AreFitting (sym (located_cons c x xs)) (first, others)
+
+data_fitting : (Named : Names) (k at done : ℕ) (c : Counters) (from : ℕ) (bytes : List ℕ) (own more : List Statement)
     → from ≡ at + done → done + length bytes ≤ most_bytes → from + length bytes ≤ 2 ^ 32 → Stands c k at done
-    → Data from bytes own
-    → ((e : Counters) (m : ℕ) (names : List Symbol) → Stands e k at (done + length bytes)
-    → statements_fault names (located e (numbered m more)) ≡ None)
-    → statements_fault defined (located c (numbered n (own ++ more))) ≡ None
-data_faults k at done c n from _ _ more defined begins few low s no_data rest =
+    → Data Named from bytes own
+    → ((e : Counters) → Stands e k at (done + length bytes) → AreFitting (located e more))
+    → AreFitting (located c (own ++ more))
+data_fitting Named k at done c from _ _ more begins few low s no_data rest =
     let none : done ≡ done + 0 = omega arith in
-    rest c n defined (subst (λ (m : ℕ). Stands c k at m) none s)
-data_faults k at done c n from bytes _ more defined begins few low s
-    (more_data {b = b} {bs = bs} given left bytes_are gives stands tail) rest =
+    rest c (subst (λ (m : ℕ). Stands c k at m) none s)
+data_fitting Named k at done c from bytes _ more begins few low s
+    (more_data {x = x} {xs = xs} given left bytes_are gives tail) rest =
     let next : from + length given ≡ at + (done + length given) = omega arith in
     let size : length bytes ≡ length given + length left = ap length bytes_are ∙ length-append given left in
-    let later : (e : Counters) (m : ℕ) (names : List Symbol) → Stands e k at (done + length given + length left)
-    → statements_fault names (located e (numbered m more)) ≡ None =
-    λ e m names h. rest e m names (let same : done + length given + length left ≡ done + length bytes = omega
-    (arith, size) in
+    let later : (e : Counters) → Stands e k at (done + length given + length left) → AreFitting (located e more) =
+    λ e h. rest e (let same : done + length given + length left ≡ done + length bytes = omega (arith, size) in
     subst (λ (i : ℕ). Stands e k at i) same h) in
-    let r : Located = record { before = c; statement = unlabelled n b } in
-    let others : List Located = located (after c b) (numbered (n + 1) (bs ++ more)) in
-    let ih : statements_fault (defined ++ symbols_of r) others ≡ None =
-    data_faults k at (done + length given) (after c b) (n + 1) (from + length given) left bs more
-    (defined ++ symbols_of r) next
-    (omega (arith, size)) (omega (arith, size)) (stands_behind c k at done b given gives s) tail later in
-    let offset : c.lengths c.here ≡ done = ap c.lengths s.here ∙ s.has in
-    let place : c.starts c.here + c.lengths c.here ≡ from =
-    ap (λ (i : ℕ). c.starts i + c.lengths i) s.here
+    let r : Located = record { before = c; statement = x } in
+    let ih : AreFitting (located (after c x.body) (xs ++ more)) =
+    data_fitting Named k at (done + length given) (after c x.body) (from + length given) left xs more next
+    (omega (arith, size)) (omega (arith, size)) (stands_behind Named c k at done from x given gives s) tail later in
+    let offset : offset_of r ≡ done = ap offset_here (gives.stays c) ∙ ap c.lengths s.here ∙ s.has in
+    let place : place_of r ≡ from =
+    ap place_here (gives.stays c)
+    ∙ ap (λ (i : ℕ). c.starts i + c.lengths i) s.here
     ∙ (let e = s.has in let f = s.begins in omega (arith, e, f, begins)) in
-    let len : length_at from b ≡ length given = gives_length from b given gives in
-    let one : fault_in defined r ≡ None =
-    data_fault defined c n b given gives
-    ∙ ap (λ (i : ℕ). misfit_at i (c.starts c.here + c.lengths c.here) (unlabelled n b)) offset
-    ∙ ap (λ (i : ℕ). misfit_at done i (unlabelled n b)) place
-    ∙ fits done from (unlabelled n b) stands (omega (arith, size, len)) (omega (arith, size, len)) in
-    ap (statements_fault defined) (located_cons c (unlabelled n b) (numbered (n + 1) (bs ++ more)))
-    ∙ faults_cons defined r others one ih
+    let len : length_at from x.body ≡ length given = gives.length_is from in
+    fitting_cons c x (xs ++ more)
+    (ap (λ (i : ℕ). misfit_at i (place_of r) x) offset
+    ∙ ap (λ (i : ℕ). misfit_at done i x) place
+    ∙ fits done from x gives.stands (omega (arith, size, len)) (omega (arith, size, len)))
+    ih
 
 -- the parts have no more bytes together than an image
 abbrev pub AreFew : List Placed → Type 0
 AreFew [] = Unit {0}
 AreFew (run ∷ runs) = (length run.bytes ≤ most_bytes) × AreFew runs
 
-place_fault : (defined : List Symbol) (c : Counters) (n at : ℕ) → c.lengths c.count ≡ 0 → at ≤ 2 ^ 32
-    → fault_in defined (record { before = c; statement = unlabelled n (body.At at) }) ≡ None
-place_fault defined c n at none low =
+place_fits : (c : Counters) (n at : ℕ) → c.lengths c.count ≡ 0 → at ≤ 2 ^ 32
+    → misfit_at (c.lengths c.count) (place_of (record { before = c; statement = unlabelled n (body.At at) }))
+    (unlabelled n (body.At at)) ≡ None
+place_fits c n at none low =
     let x : Statement = unlabelled n (body.At at) in
     let r : Located = record { before = c; statement = x } in
     let place : place_of r ≡ at =
@@ -116,29 +121,36 @@ place_fault defined c n at none low =
     ∙ ap (λ (i : ℕ). misfit_at 0 i x) place
     ∙ fits 0 at x (omega arith) (omega arith) (omega arith)
 
-pub parts_faults : (c : Counters) (n i : ℕ) (runs : List Placed) (bodies : List Body) (defined : List Symbol)
-    → ArePieces runs
-    → AreFew runs → Fresh c n → PartsData runs bodies → statements_fault defined (located c (numbered i bodies)) ≡ None
-parts_faults c n i _ _ defined pieces few f no_parts = ap (statements_fault defined) (located_none c)
-    ∙ no_faults defined
-parts_faults c n i _ bodies defined pieces few f
-    (more_parts {run = run} {runs = runs} own more bodies_are datas others) =
+pub parts_fitting : (Named : Names) (c : Counters) (n : ℕ) (runs : List Placed) (xs : List Statement)
+    → ArePieces runs → AreFew runs → Fresh c n → PartsData Named runs xs → AreFitting (located c xs)
+parts_fitting Named c n _ _ pieces few f no_parts = subst AreFitting (sym (located_none c)) tt
+parts_fitting Named c n _ xs pieces few f
+    (more_parts {run = run} {runs = runs} i own more statements_are datas others) =
     let opened : Counters = after c (body.At run.at) in
     let x : Statement = unlabelled i (body.At run.at) in
-    let r : Located = record { before = c; statement = x } in
-    let behind : (e : Counters) (m : ℕ) (names : List Symbol) → Stands e n run.at (0 + length run.bytes)
-    → statements_fault names (located e (numbered m more)) ≡ None =
-    λ e m names h. parts_faults e (n + 1) m runs more names pieces.3 few.1
-    (fresh_behind e n run.at (0 + length run.bytes) h) others in
-    let own_fine : statements_fault (defined ++ symbols_of r) (located opened (numbered (i + 1) (own ++ more))) ≡ None =
-    data_faults n run.at 0 opened (i + 1) run.at run.bytes own more (defined ++ symbols_of r) (omega arith)
-    (let h = few.0 in omega arith) pieces.2
-    (opens_part c n run.at f) datas behind in
+    let behind : (e : Counters) → Stands e n run.at (0 + length run.bytes) → AreFitting (located e more) =
+    λ e h. parts_fitting Named e (n + 1) runs more pieces.3 few.1 (fresh_behind e n run.at (0 + length run.bytes) h)
+    others in
+    let own_fit : AreFitting (located opened (own ++ more)) =
+    data_fitting Named n run.at 0 opened run.at run.bytes own more (omega arith)
+    (let h = few.0 in omega arith) pieces.2 (opens_part c n run.at f) datas behind in
     let none : c.lengths c.count ≡ 0 = f.empty c.count (let e = f.count in omega arith) in
-    ap (λ (bs : List Body). statements_fault defined (located c (numbered i bs))) bodies_are
-    ∙ ap (statements_fault defined) (located_cons c x (numbered (i + 1) (own ++ more)))
-    ∙ faults_cons defined r (located opened (numbered (i + 1) (own ++ more)))
-    (place_fault defined c i run.at none (let e = pieces.2 in omega arith)) own_fine
+    subst (λ (ys : List Statement). AreFitting (located c ys)) (sym statements_are)
+    (fitting_cons c x (own ++ more) (place_fits c i run.at none (let e = pieces.2 in omega arith)) own_fit)
+
+-- statements that give names values fit, and what stands behind them
+pub fitting_behind : (Named : Names) (c : Counters) (sets xs : List Statement) → Sets Named sets → Empty c
+    → ((e : Counters) → Empty e → AreFitting (located e xs)) → AreFitting (located c (sets ++ xs))
+fitting_behind Named c _ xs no_set empty rest = rest c empty
+fitting_behind Named c _ xs (a_set {xs = sets} n name col value named others) empty rest =
+    let x : Statement = unlabelled n (body.Set name col value) in
+    let place : c.starts c.here + c.lengths c.here ≡ c.starts 0 =
+    ap (λ (i : ℕ). c.starts i + c.lengths i) empty.here ∙ (let e = empty.text in omega (arith, e)) in
+    fitting_cons c x (sets ++ xs)
+    (ap (λ (i : ℕ). misfit_at i (c.starts c.here + c.lengths c.here) x) (ap c.lengths empty.here ∙ empty.text)
+    ∙ ap (λ (i : ℕ). misfit_at 0 i x) (place ∙ empty.begins)
+    ∙ fits 0 0 x (omega arith) (omega arith) (omega arith))
+    (fitting_behind Named (after c x.body) sets xs others (empty_behind c name col value empty) rest)
 
 -- the sections that statements open
 pub opened_sections : (c : Counters) (xs : List Statement)
@@ -154,28 +166,27 @@ HeadsAre [] [] = Unit {0}
 HeadsAre (h ∷ hs) (run ∷ runs) = (h.place ≡ At run.at) × HeadsAre hs runs
 HeadsAre _ _ = ⊥
 
-data_opens : (n : ℕ) (b : Body) (given : List ℕ) → Gives b given → opened_by n b ≡ []
-data_opens n _ _ (a_code i) = refl
-data_opens n _ _ (a_word w) = refl
-data_opens n _ _ (a_byte b) = refl
+-- the sections that statements open, wherever they stand
+abbrev pub opened_in : List Statement → List Head
+opened_in xs = flat_map (λ x. opened_by x.line x.body) xs
 
--- the sections that bodies open
-abbrev pub opened_in : ℕ → List Body → List Head
-opened_in n bs = flat_map (λ x. opened_by x.line x.body) (numbered n bs)
+data_heads : (Named : Names) (from : ℕ) (bytes : List ℕ) (own more : List Statement) (runs : List Placed)
+    → Data Named from bytes own → HeadsAre (opened_in more) runs → HeadsAre (opened_in (own ++ more)) runs
+data_heads Named from _ _ more runs no_data rest = rest
+data_heads Named from _ _ more runs (more_data {x = x} {xs = xs} given left bytes_are gives tail) rest =
+    subst (λ (hs : List Head). HeadsAre (hs ++ opened_in (xs ++ more)) runs) (sym gives.opens_none)
+    (data_heads Named (from + length given) left xs more runs tail rest)
 
-data_heads : (n from : ℕ) (bytes : List ℕ) (own more : List Body) (runs : List Placed) → Data from bytes own
-    → ((m : ℕ) → HeadsAre (opened_in m more) runs) → HeadsAre (opened_in n (own ++ more)) runs
-data_heads n from _ _ more runs no_data rest = rest n
-data_heads n from _ _ more runs (more_data {b = b} {bs = bs} given left bytes_are gives stands tail) rest =
-    subst (λ (hs : List Head). HeadsAre (hs ++ opened_in (n + 1) (bs ++ more)) runs) (sym (data_opens n b given gives))
-    (data_heads (n + 1) (from + length given) left bs more runs tail rest)
+pub parts_heads : (Named : Names) (runs : List Placed) (xs : List Statement) → PartsData Named runs xs
+    → HeadsAre (opened_in xs) runs
+parts_heads Named _ _ no_parts = tt
+parts_heads Named _ xs (more_parts {run = run} {runs = runs} n own more statements_are datas others) =
+    subst (λ (ys : List Statement). HeadsAre (opened_in ys) (run ∷ runs)) (sym statements_are)
+    (refl, data_heads Named run.at run.bytes own more runs datas (parts_heads Named runs more others))
 
-pub parts_heads : (i : ℕ) (runs : List Placed) (bodies : List Body) → PartsData runs bodies
-    → HeadsAre (opened_in i bodies) runs
-parts_heads i _ _ no_parts = tt
-parts_heads i _ bodies (more_parts {run = run} {runs = runs} own more bodies_are datas others) =
-    subst (λ (bs : List Body). HeadsAre (opened_in i bs) (run ∷ runs)) (sym bodies_are)
-    (refl, data_heads (i + 1) run.at run.bytes own more runs datas (λ m. parts_heads m runs more others))
+pub sets_heads : (Named : Names) (sets xs : List Statement) → Sets Named sets → opened_in (sets ++ xs) ≡ opened_in xs
+sets_heads Named _ xs no_set = refl
+sets_heads Named _ xs (a_set {xs = sets} n name col value named others) = sets_heads Named sets xs others
 
 -- so their sections begin where the parts do
 get_behind : (pre : List Head) (h : Head) (hs : List Head) → slice_get (pre ++ h ∷ hs) (length pre) ≡ Some h
@@ -197,59 +208,25 @@ bases_are d n pre (h ∷ hs) (run ∷ runs) heads len are =
 bases_are d n pre [] (run ∷ runs) heads len are = absurd are
 bases_are d n pre (h ∷ hs) [] heads len are = absurd are
 
--- symbols and uses
-pub defined_symbols : (c : Counters) (i : ℕ) (bs : List Body)
-    → flat_map symbols_of (located c (numbered i bs)) ≡ flat_map (λ x. sets_at x.line x.body) (numbered i bs)
-defined_symbols c i [] = ap (flat_map symbols_of) (located_none c)
-defined_symbols c i (b ∷ bs) =
-    ap (flat_map symbols_of) (located_cons c (unlabelled i b) (numbered (i + 1) bs))
-    ∙ ap (λ (ss : List Symbol). sets_at i b ++ ss) (defined_symbols (after c b) (i + 1) bs)
+-- no statement says that a name is global
+pub data_silent : (Named : Names) (name : List ℕ) (from : ℕ) (bytes : List ℕ) (own more : List Statement)
+    → Data Named from bytes own → list_any (λ (x : Statement). declares name x.body) more ≡ false
+    → list_any (λ (x : Statement). declares name x.body) (own ++ more) ≡ false
+data_silent Named name from _ _ more no_data rest = rest
+data_silent Named name from _ _ more (more_data {x = x} {xs = xs} given left bytes_are gives tail) rest =
+    ap (λ (t : Bool). t || list_any (λ (y : Statement). declares name y.body) (xs ++ more)) (gives.declares_none name)
+    ∙ data_silent Named name (from + length given) left xs more tail rest
 
--- the symbols that bodies set
-abbrev pub set_in : ℕ → List Body → List Symbol
-set_in n bs = flat_map (λ x. sets_at x.line x.body) (numbered n bs)
+pub parts_silent : (Named : Names) (name : List ℕ) (runs : List Placed) (xs : List Statement) → PartsData Named runs xs
+    → list_any (λ (x : Statement). declares name x.body) xs ≡ false
+parts_silent Named name _ _ no_parts = refl
+parts_silent Named name _ xs (more_parts {run = run} {runs = runs} n own more statements_are datas others) =
+    ap (list_any (λ (x : Statement). declares name x.body)) statements_are
+    ∙ data_silent Named name run.at run.bytes own more datas (parts_silent Named name runs more others)
 
-data_sets : (n : ℕ) (b : Body) (given : List ℕ) → Gives b given → sets_at n b ≡ []
-data_sets n _ _ (a_code i) = refl
-data_sets n _ _ (a_word w) = refl
-data_sets n _ _ (a_byte b) = refl
-
-data_defines : (n from : ℕ) (bytes : List ℕ) (own more : List Body) → Data from bytes own
-    → ((m : ℕ) → set_in m more ≡ []) → set_in n (own ++ more) ≡ []
-data_defines n from _ _ more no_data rest = rest n
-data_defines n from _ _ more (more_data {b = b} {bs = bs} given left bytes_are gives stands tail) rest =
-    ap (λ (ss : List Symbol). ss ++ set_in (n + 1) (bs ++ more)) (data_sets n b given gives)
-    ∙ data_defines (n + 1) (from + length given) left bs more tail rest
-
-pub parts_define : (i : ℕ) (runs : List Placed) (bodies : List Body) → PartsData runs bodies → set_in i bodies ≡ []
-parts_define i _ _ no_parts = refl
-parts_define i _ bodies (more_parts {run = run} {runs = runs} own more bodies_are datas others) =
-    ap (set_in i) bodies_are
-    ∙ data_defines (i + 1) run.at run.bytes own more datas (λ m. parts_define m runs more others)
-
-data_uses : (c : Counters) (n : ℕ) (b : Body) (given : List ℕ) → Gives b given
-    → symbol_uses (record { before = c; statement = unlabelled n b }) ≡ []
-data_uses c n _ _ (a_code i) = refl
-data_uses c n _ _ (a_word w) = refl
-data_uses c n _ _ (a_byte b) = refl
-
--- the uses of symbols in bodies
-abbrev pub uses_of : Counters → ℕ → List Body → List Reloc
-uses_of c n bs = flat_map symbol_uses (located c (numbered n bs))
-
-data_use : (c : Counters) (n from : ℕ) (bytes : List ℕ) (own more : List Body) → Data from bytes own
-    → ((e : Counters) (m : ℕ) → uses_of e m more ≡ []) → uses_of c n (own ++ more) ≡ []
-data_use c n from _ _ more no_data rest = rest c n
-data_use c n from _ _ more (more_data {b = b} {bs = bs} given left bytes_are gives stands tail) rest =
-    ap (flat_map symbol_uses) (located_cons c (unlabelled n b) (numbered (n + 1) (bs ++ more)))
-    ∙ ap (λ (rs : List Reloc). rs ++ uses_of (after c b) (n + 1) (bs ++ more)) (data_uses c n b given gives)
-    ∙ data_use (after c b) (n + 1) (from + length given) left bs more tail rest
-
-pub parts_use : (c : Counters) (i : ℕ) (runs : List Placed) (bodies : List Body) → PartsData runs bodies
-    → uses_of c i bodies ≡ []
-parts_use c i _ _ no_parts = ap (flat_map symbol_uses) (located_none c)
-parts_use c i _ bodies (more_parts {run = run} {runs = runs} own more bodies_are datas others) =
-    ap (uses_of c i) bodies_are
-    ∙ ap (flat_map symbol_uses) (located_cons c (unlabelled i (body.At run.at)) (numbered (i + 1) (own ++ more)))
-    ∙ data_use (after c (body.At run.at)) (i + 1) run.at run.bytes own more datas
-    (λ e m. parts_use e m runs more others)
+pub sets_silent : (Named : Names) (name : List ℕ) (sets xs : List Statement) → Sets Named sets
+    → list_any (λ (x : Statement). declares name x.body) xs ≡ false
+    → list_any (λ (x : Statement). declares name x.body) (sets ++ xs) ≡ false
+sets_silent Named name _ xs no_set rest = rest
+sets_silent Named name _ xs (a_set {xs = sets} n set_name col value named others) rest =
+    sets_silent Named name sets xs others rest

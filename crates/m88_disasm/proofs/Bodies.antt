@@ -12,34 +12,19 @@ use Rattle.m88_base.proofs.Laws.{byte_in_above, byte_in_from, none_below}
 use Rattle.m88_isa.specs.Word.{word_of}
 use Rattle.m88_isa.specs.declared.instr.Instr.{Instr}
 use Rattle.m88_isa.specs.declared.instr.Instr.TheVariants as instr
-use Rattle.m88_parse.specs.declared.unit.Body.{Body}
 use Rattle.m88_parse.specs.declared.unit.Body.TheVariants as body
+use Rattle.m88_parse.specs.declared.unit.Statement.{Statement}
 use Rattle.m88_parse.specs.declared.unit.Value.TheVariants.{Number}
-use Rattle.m88_asm.specs.Faults.{alignment_of}
-use Rattle.m88_disasm.specs.Listing.{AreLinesFrom, ArePartLines, IsWordLine, byte, lone_byte_line, instruction, no_instruction, no_line, no_part, part, word}
-use Rattle.m88_disasm.specs.Read.{said_body}
+use Rattle.m88_disasm.specs.Listing.{AreLinesFrom, ArePartLines, IsWordLine, byte, lone_byte_line, instruction, no_instruction, no_line, no_part, part, place_line, word}
+use Rattle.m88_disasm.specs.Read.{said_body, unlabelled}
 use Rattle.m88_disasm.specs.Text.{instr_text, word_text}
 use Rattle.m88_disasm.proofs.Rows.{Stated, stated_behind}
-use Rattle.m88_disasm.proofs.Spoken.{Spoken, said_byte, said_instr, said_place, said_word}
+use Rattle.m88_disasm.proofs.Spoken.{SpokenAs, said_byte, said_instr, said_place, said_word, spoken}
+use Rattle.m88_disasm.proofs.Given.{Data, Gives, Names, PartsData, more_data, more_parts, no_data, no_parts}
 
--- a body that gives these bytes
-pub data Gives : Body → List ℕ → Type 0 where
-  a_code : (i : Instr) → Gives (body.Code i None) (to_be_bytes w32 (word_of i))
-  a_word : (w : ℕ) → Gives (body.Word (Number w ∷ [])) (to_be_bytes w32 w)
-  a_byte : (b : ℕ) → Gives (body.Byte (b ∷ [])) (b ∷ [])
-
--- bodies that give bytes from an address on
-pub data Data : ℕ → List ℕ → List Body → Type 0 where
-  no_data : {at : ℕ} → Data at [] []
-  more_data : {at : ℕ} {bytes : List ℕ} {b : Body} {bs : List Body} (given rest : List ℕ) → bytes ≡ given ++ rest
-      → Gives b given → at % alignment_of b ≡ 0 → Data (at + length given) rest bs → Data at bytes (b ∷ bs)
-
--- the bodies of parts in turn
-pub data PartsData : List Placed → List Body → Type 0 where
-  no_parts : PartsData [] []
-  more_parts : {run : Placed} {runs : List Placed} {bodies : List Body} (own more : List Body)
-      → bodies ≡ body.At run.at ∷ (own ++ more) → Data run.at run.bytes own → PartsData runs more
-      → PartsData (run ∷ runs) bodies
+-- a listing names nothing but its start
+abbrev pub nothing_named : Names
+nothing_named name a = ⊥
 
 -- each byte is below 256
 abbrev pub AreBytes : List ℕ → Type 0
@@ -53,17 +38,57 @@ ArePieces (p ∷ ps) = AreBytes p.bytes × (0 < length p.bytes) × (p.at + lengt
 
 -- the lines of some bytes, each read as a statement, and the bytes that these give
 pub record ListedBytes (number at : ℕ) (bytes : List ℕ) (lines : List (List ℕ)) : Type 0 where
-  pub bodies : List Body
-  pub stated : Stated number lines bodies
-  pub datas : Data at bytes bodies
+  pub statements : List Statement
+  pub stated : Stated number lines statements
+  pub datas : Data nothing_named at bytes statements
 
-gives_instr : (i : Instr) → Gives (said_body i) (to_be_bytes w32 (word_of i))
-gives_instr (instr.Sfu unit rest) = a_word (word_of (instr.Sfu unit rest))
-gives_instr i = a_code _
+-- a body that gives bytes wherever it stands, and uses no name
+gives_code : (Named : Names) (number at : ℕ) (i : Instr) → at % 4 ≡ 0
+    → Gives Named at (unlabelled number (body.Code i None)) (to_be_bytes w32 (word_of i))
+gives_code Named number at i stands = record {
+  stays = λ c. refl;
+  length_is = λ place. refl;
+  stands = stands;
+  bytes_are = λ value place means. refl;
+  opens_none = refl;
+  sets_none = refl;
+  declares_none = λ name. refl;
+  labelled = tt;
+  uses = λ section offset. tt;
+}
 
-stands_instr : (i : Instr) (at : ℕ) → at % 4 ≡ 0 → at % alignment_of (said_body i) ≡ 0
-stands_instr (instr.Sfu unit rest) at h = h
-stands_instr i at h = h
+gives_word : (Named : Names) (number at w : ℕ) → at % 4 ≡ 0
+    → Gives Named at (unlabelled number (body.Word (Number w ∷ []))) (to_be_bytes w32 w)
+gives_word Named number at w stands = record {
+  stays = λ c. refl;
+  length_is = λ place. refl;
+  stands = stands;
+  bytes_are = λ value place means. refl;
+  opens_none = refl;
+  sets_none = refl;
+  declares_none = λ name. refl;
+  labelled = tt;
+  uses = λ section offset. tt;
+}
+
+pub gives_byte : (Named : Names) (number at b : ℕ) → Gives Named at (unlabelled number (body.Byte (b ∷ []))) (b ∷ [])
+gives_byte Named number at b = record {
+  stays = λ c. refl;
+  length_is = λ place. refl;
+  stands = omega arith;
+  bytes_are = λ value place means. refl;
+  opens_none = refl;
+  sets_none = refl;
+  declares_none = λ name. refl;
+  labelled = tt;
+  uses = λ section offset. tt;
+}
+
+pub gives_instr : (Named : Names) (number at : ℕ) (i : Instr) → at % 4 ≡ 0
+    → Gives Named at (unlabelled number (said_body i)) (to_be_bytes w32 (word_of i))
+gives_instr Named number at (instr.Sfu unit rest) stands =
+    gives_word Named number at (word_of (instr.Sfu unit rest)) stands
+gives_instr Named number at i stands = gives_code Named number at _ stands
 
 below : (bs : List ℕ) → AreBytes bs → (i : ℕ) → get_or bs i 0 < 256
 below [] h i = omega arith
@@ -79,15 +104,15 @@ four a b c d ha hb hc hd =
 word_below : (a b c d : ℕ) → a < 256 → b < 256 → c < 256 → d < 256 → from_be_bytes w32 (a ∷ b ∷ c ∷ d ∷ []) < 2 ^ 32
 word_below a b c d ha hb hc hd = omega arith
 
--- a line before others that are listed, whose body gives the first bytes
-listed_before : (number at : ℕ) (given rest bytes line : List ℕ) (lines : List (List ℕ)) (b : Body)
+-- a line before others that are listed, whose statement gives the first bytes
+listed_before : (number at : ℕ) (given rest bytes line : List ℕ) (lines : List (List ℕ)) (x : Statement)
     → bytes ≡ given ++ rest
-    → Gives b given → at % alignment_of b ≡ 0 → Spoken number line b
+    → Gives nothing_named at x given → SpokenAs number line x
     → ListedBytes (number + 1) (at + length given) rest lines → ListedBytes number at bytes (line ∷ lines)
-listed_before number at given rest bytes line lines b bytes_are gives stands spoken l = record {
-  bodies = b ∷ l.bodies;
-  stated = (spoken, l.stated);
-  datas = more_data given rest bytes_are gives stands l.datas;
+listed_before number at given rest bytes line lines x bytes_are gives said l = record {
+  statements = x ∷ l.statements;
+  stated = (said, l.stated);
+  datas = more_data given rest bytes_are gives l.datas;
 }
 
 -- the line of a word
@@ -97,47 +122,53 @@ listed_word : (number at a b c d : ℕ) (rest line : List ℕ) (lines : List (Li
     → ListedBytes (number + 1) (at + 4) rest lines → ListedBytes number at (a ∷ b ∷ c ∷ d ∷ rest) (line ∷ lines)
 listed_word number at a b c d rest _ lines ha hb hc hd stands (instruction i is) l =
     let given : List ℕ = a ∷ b ∷ c ∷ d ∷ [] in
+    let x : Statement = unlabelled number (said_body i) in
     let bytes : to_be_bytes w32 (word_of i) ≡ given = ap (to_be_bytes w32) is.1 ∙ four a b c d ha hb hc hd in
-    listed_before number at given rest _ (instr_text i) lines (said_body i) refl
-    (subst (λ (xs : List ℕ). Gives (said_body i) xs) bytes (gives_instr i)) (stands_instr i at stands)
-    (said_instr number i is.0) l
+    listed_before number at given rest _ (instr_text i) lines x refl
+    (subst (λ (xs : List ℕ). Gives nothing_named at x xs) bytes (gives_instr nothing_named number at i stands))
+    (spoken number (instr_text i) (said_body i) (said_instr number i is.0)) l
 listed_word number at a b c d rest _ lines ha hb hc hd stands (no_instruction none) l =
     let w : ℕ = from_be_bytes w32 (a ∷ b ∷ c ∷ d ∷ []) in
-    listed_before number at (a ∷ b ∷ c ∷ d ∷ []) rest _ (word_text w) lines (body.Word (Number w ∷ [])) refl
-    (subst (λ (xs : List ℕ). Gives (body.Word (Number w ∷ [])) xs) (four a b c d ha hb hc hd) (a_word w)) stands
-    (said_word number w (word_below a b c d ha hb hc hd)) l
+    let x : Statement = unlabelled number (body.Word (Number w ∷ [])) in
+    listed_before number at (a ∷ b ∷ c ∷ d ∷ []) rest _ (word_text w) lines x refl
+    (subst (λ (xs : List ℕ). Gives nothing_named at x xs) (four a b c d ha hb hc hd)
+    (gives_word nothing_named number at w stands))
+    (spoken number (word_text w) (body.Word (Number w ∷ [])) (said_word number w (word_below a b c d ha hb hc hd))) l
 
 listed : (number at : ℕ) (bytes : List ℕ) (lines : List (List ℕ)) → AreBytes bytes → AreLinesFrom at bytes lines
     → ListedBytes number at bytes lines
-listed number at _ _ small no_line = record { bodies = []; stated = tt; datas = no_data }
+listed number at _ _ small no_line = record { statements = []; stated = tt; datas = no_data }
 listed number at _ _ small (word {a = a} {b = b} {c = c} {d = d} {bytes = rest} {line = line} {lines = lines} begins
     is more) =
     listed_word number at a b c d rest line lines small.0 small.1.0 small.1.1.0 small.1.1.1.0 begins.0 is
     (listed (number + 1) (at + 4) rest lines small.1.1.1.1 more)
 listed number at _ _ small (byte {b = b} {bytes = rest} {lines = lines} none more) =
-    listed_before number at (b ∷ []) rest _ (lone_byte_line b) lines (body.Byte (b ∷ [])) refl (a_byte b) (omega arith)
-    (said_byte number b small.0) (listed (number + 1) (at + 1) rest lines small.1 more)
+    listed_before number at (b ∷ []) rest _ (lone_byte_line b) lines (unlabelled number (body.Byte (b ∷ []))) refl
+    (gives_byte nothing_named number at b)
+    (spoken number (lone_byte_line b) (body.Byte (b ∷ [])) (said_byte number b small.0))
+    (listed (number + 1) (at + 1) rest lines small.1 more)
 
 -- the lines of parts, each read as a statement
 pub record ListedParts (number : ℕ) (runs : List Placed) (lines : List (List ℕ)) : Type 0 where
-  pub bodies : List Body
-  pub stated : Stated number lines bodies
-  pub datas : PartsData runs bodies
+  pub statements : List Statement
+  pub stated : Stated number lines statements
+  pub datas : PartsData nothing_named runs statements
 
 pub listed_parts : (number : ℕ) (runs : List Placed) (lines : List (List ℕ)) → ArePieces runs → ArePartLines runs lines
     → ListedParts number runs lines
-listed_parts number _ _ pieces no_part = record { bodies = []; stated = tt; datas = no_parts }
+listed_parts number _ _ pieces no_part = record { statements = []; stated = tt; datas = no_parts }
 listed_parts number _ _ pieces (part {run = run} {runs = runs} {lines = lines} {more = more} own others) =
     let l : ListedBytes (number + 1) run.at run.bytes lines = listed (number + 1) run.at run.bytes lines pieces.0 own in
     let later : ℕ = number + 1 + length lines in
     let k : ListedParts later runs more = listed_parts later runs more pieces.3 others in
     record {
-      bodies = body.At run.at ∷ (l.bodies ++ k.bodies);
+      statements = unlabelled number (body.At run.at) ∷ (l.statements ++ k.statements);
       stated = (
-        said_place number run.at (omega (arith, pieces.1, pieces.2)),
-        stated_behind (number + 1) later lines more l.bodies k.bodies refl l.stated k.stated,
+        spoken number (place_line run.at) (body.At run.at)
+            (said_place number run.at (omega (arith, pieces.1, pieces.2))),
+        stated_behind (number + 1) later lines more l.statements k.statements refl l.stated k.stated,
       );
-      datas = more_parts l.bodies k.bodies refl l.datas k.datas;
+      datas = more_parts number l.statements k.statements refl l.datas k.datas;
     }
 
 -- the parts of an image

@@ -18,12 +18,12 @@ use Rattle.m88_parse.specs.Language.Operands.{most_width, AreOperands, Behind, I
 use Rattle.m88_disasm.specs.Text.{control, register_name}
 
 -- a register's name says the register
-is_register : (r : Reg) (p : Piece) → p.says ≡ a_name (register_name r) → IsRegister r p
+pub is_register : (r : Reg) (p : Piece) → p.says ≡ a_name (register_name r) → IsRegister r p
 is_register r p e =
     let below : number_of r < 32 = r.in_range in
     (register_name r, number_of r, e, (refl, omega arith), same_reg r (reg_of (number_of r)) (omega arith))
 
-behind : (r : Reg) (p c : Piece) (rest : List Piece) → p.says ≡ a_name (register_name r) → c.says ≡ a_mark 44
+pub behind : (r : Reg) (p c : Piece) (rest : List Piece) → p.says ≡ a_name (register_name r) → c.says ≡ a_mark 44
     → Behind r (p ∷ c ∷ rest) rest
 behind r p c rest e f = record { operand = p; comma = c; tokens = refl; register = is_register r p e; parted = f }
 

@@ -28,12 +28,11 @@ use Rattle.m88_asm.specs.declared.fault.AsmKind.TheVariants as kind
 use Rattle.m88_disasm.specs.Read.{unlabelled}
 use Rattle.m88_disasm.specs.Text.{instr_text}
 use Rattle.m88_asm.specs.Sources.{IsProgramSource}
-use Rattle.m88_asm.specs.Sources.{IsProgramSource}
-use Rattle.m88_disasm.proofs.Accepting.{defined_symbols, faults_cons, opened_in, opened_sections, set_in, uses_of}
+use Rattle.m88_disasm.proofs.Accepting.{faults_cons, opened_in, opened_sections}
 use Rattle.m88_disasm.proofs.Linking.{hits_cons, lengths_cons, lengths_of}
 use Rattle.m88_disasm.proofs.PlainInstructions.{IsPlain}
-use Rattle.m88_disasm.proofs.Rows.{Stated, numbered, unit_is, unit_of_bodies}
-use Rattle.m88_disasm.proofs.Spoken.{Spoken, said_instr}
+use Rattle.m88_disasm.proofs.Rows.{Stated, numbered, unit_is, unit_of}
+use Rattle.m88_disasm.proofs.Spoken.{Spoken, said_instr, spoken}
 use Rattle.m88_disasm.proofs.Standing.{located_cons, located_none}
 
 -- instructions by numbers, as lines and as bodies
@@ -45,10 +44,11 @@ bodies_of f ns = map (λ n. Code (f n) None) ns
 
 -- each line says its body
 stated : (f : ℕ → Instr) → ((n : ℕ) → IsPlain (f n)) → (number : ℕ) (ns : List ℕ)
-    → Stated number (texts_of f ns) (bodies_of f ns)
+    → Stated number (texts_of f ns) (numbered number (bodies_of f ns))
 stated f plain number [] = tt
 stated f plain number (n ∷ ns) = (
-  subst (λ (b : Body). Spoken number (instr_text (f n)) b) (plain n).said (said_instr number (f n) (plain n).valid),
+  spoken number (instr_text (f n)) (Code (f n) None)
+      (subst (λ (b : Body). Spoken number (instr_text (f n)) b) (plain n).said (said_instr number (f n) (plain n).valid)),
   stated f plain (number + 1) ns,
 )
 
@@ -119,33 +119,37 @@ unfaulted f (n ∷ ns) c line done defined s stands few =
 
 -- all bytes are text
 text_bytes : (f : ℕ → Instr) (ns : List ℕ) (c : Counters) (line done : ℕ) → InText c done
-    → lengths_of 0 c line (bodies_of f ns) ≡ 4 * length ns
+    → lengths_of 0 c (numbered line (bodies_of f ns)) ≡ 4 * length ns
 text_bytes f [] c line done s = ap (sum_by _) (located_none c)
 text_bytes f (n ∷ ns) c line done s =
     let others = text_bytes f ns (after c (Code (f n) None)) (line + 1) (done + 4) (behind c (f n) done s) in
-    lengths_cons 0 c line (Code (f n) None) (bodies_of f ns)
-    ∙ ap (λ (h : ℕ). (if h == 0 then 4 else 0) + lengths_of 0 (after c (Code (f n) None)) (line + 1) (bodies_of f ns)) s.here
+    lengths_cons 0 c (unlabelled line (Code (f n) None)) (numbered (line + 1) (bodies_of f ns))
+    ∙ ap (λ (h : ℕ). (if h == 0 then 4 else 0) + lengths_of 0 (after c (Code (f n) None)) (numbered (line + 1) (bodies_of f ns))) s.here
     ∙ omega (arith, others)
 
 data_bytes : (f : ℕ → Instr) (ns : List ℕ) (c : Counters) (line done : ℕ) → InText c done
-    → lengths_of 1 c line (bodies_of f ns) ≡ 0
+    → lengths_of 1 c (numbered line (bodies_of f ns)) ≡ 0
 data_bytes f [] c line done s = ap (sum_by _) (located_none c)
 data_bytes f (n ∷ ns) c line done s =
     let others = data_bytes f ns (after c (Code (f n) None)) (line + 1) (done + 4) (behind c (f n) done s) in
-    lengths_cons 1 c line (Code (f n) None) (bodies_of f ns)
-    ∙ ap (λ (h : ℕ). (if h == 1 then 4 else 0) + lengths_of 1 (after c (Code (f n) None)) (line + 1) (bodies_of f ns)) s.here
+    lengths_cons 1 c (unlabelled line (Code (f n) None)) (numbered (line + 1) (bodies_of f ns))
+    ∙ ap (λ (h : ℕ). (if h == 1 then 4 else 0) + lengths_of 1 (after c (Code (f n) None)) (numbered (line + 1) (bodies_of f ns))) s.here
     ∙ omega (arith, others)
 
 -- they open no section, define no symbol and use none
-none_opened : (f : ℕ → Instr) (line : ℕ) (ns : List ℕ) → opened_in line (bodies_of f ns) ≡ []
+none_opened : (f : ℕ → Instr) (line : ℕ) (ns : List ℕ) → opened_in (numbered line (bodies_of f ns)) ≡ []
 none_opened f line [] = refl
 none_opened f line (n ∷ ns) = none_opened f (line + 1) ns
 
-none_set : (f : ℕ → Instr) (line : ℕ) (ns : List ℕ) → set_in line (bodies_of f ns) ≡ []
-none_set f line [] = refl
-none_set f line (n ∷ ns) = none_set f (line + 1) ns
+none_defined : (f : ℕ → Instr) (c : Counters) (line : ℕ) (ns : List ℕ)
+    → flat_map symbols_of (located c (numbered line (bodies_of f ns))) ≡ []
+none_defined f c line [] = ap (flat_map symbols_of) (located_none c)
+none_defined f c line (n ∷ ns) =
+    ap (flat_map symbols_of) (located_cons c (unlabelled line (Code (f n) None)) (numbered (line + 1) (bodies_of f ns)))
+    ∙ none_defined f (after c (Code (f n) None)) (line + 1) ns
 
-none_used : (f : ℕ → Instr) (c : Counters) (line : ℕ) (ns : List ℕ) → uses_of c line (bodies_of f ns) ≡ []
+none_used : (f : ℕ → Instr) (c : Counters) (line : ℕ) (ns : List ℕ)
+    → flat_map symbol_uses (located c (numbered line (bodies_of f ns))) ≡ []
 none_used f c line [] = ap (flat_map symbol_uses) (located_none c)
 none_used f c line (n ∷ ns) =
     ap (flat_map symbol_uses) (located_cons c (unlabelled line (Code (f n) None)) (numbered (line + 1) (bodies_of f ns)))
@@ -165,7 +169,7 @@ stood f ns = record {
 no_globals : (f : ℕ → Instr) (ns : List ℕ) → globals_in (stood f ns) ++ [] ≡ []
 no_globals f ns =
     ap (λ (ss : List Symbol). exported (base_in (stood f ns)) (map (marked (main f ns).statements) ss) ++ [])
-    (defined_symbols at_begin 1 (bodies_of f ns) ∙ none_set f 1 ns)
+    (none_defined f at_begin 1 ns)
 
 no_references : (f : ℕ → Instr) (ns : List ℕ) (g : List Symbol) → references_in g (stood f ns) ++ [] ≡ []
 no_references f ns g =
@@ -215,7 +219,7 @@ apart r s none a =
 data_low : (len : ℕ) → len ≤ most_bytes → up_to_multiple 8 (up_to_multiple 4096 (up_to_multiple 8 first_text + len)) ≤ 2 ^ 31
 data_low len few = omega arith
 
-linkable : (f : ℕ → Instr) (ns : List ℕ) → 4 * length ns ≤ most_bytes → IsLinkable (unit_layout (unit_of_bodies (bodies_of f ns)))
+linkable : (f : ℕ → Instr) (ns : List ℕ) → 4 * length ns ≤ most_bytes → IsLinkable (unit_layout (unit_of (numbered 1 (bodies_of f ns))))
 linkable f ns few =
     let text : section_length 0 (main f ns) ≡ 4 * length ns = text_bytes f ns at_begin 1 0 begun in
     let none : section_length 1 (main f ns) ≡ 0 = data_bytes f ns at_begin 1 0 begun in
@@ -234,7 +238,7 @@ linkable f ns few =
           ∙ ap (λ (rs : List Reference). option_or (undefined rs) (too_far rs)) (no_references f ns g);
     }
 
-assembled : (f : ℕ → Instr) (ns : List ℕ) → 4 * length ns ≤ most_bytes → IsAssembled (unit_of_bodies (bodies_of f ns))
+assembled : (f : ℕ → Instr) (ns : List ℕ) → 4 * length ns ≤ most_bytes → IsAssembled (unit_of (numbered 1 (bodies_of f ns)))
 assembled f ns few =
     let whole : module_fault (main f ns) ≡ None = unfaulted f ns at_begin 1 0 [] begun (omega arith) (omega arith) in
     ap (λ (o : Option AsmFault). option_or o None) whole
@@ -243,8 +247,8 @@ assembled f ns few =
 pub plain_source : (f : ℕ → Instr) (ns source : List ℕ) → ((n : ℕ) → IsPlain (f n)) → 4 * length ns ≤ most_bytes
     → source ≡ text_of_lines (map (λ n. instr_text (f n)) ns) → IsProgramSource source
 plain_source f ns source plain few is = record {
-  unit = unit_of_bodies (bodies_of f ns);
-  is_unit = unit_is (texts_of f ns) (bodies_of f ns) source is (stated f plain 1 ns);
+  unit = unit_of (numbered 1 (bodies_of f ns));
+  is_unit = unit_is (texts_of f ns) (numbered 1 (bodies_of f ns)) source is (stated f plain 1 ns);
   is_accepted = record { assembled = assembled f ns few; linkable = linkable f ns few };
 }
 

@@ -9,7 +9,7 @@ use Rattle.m88_parse.specs.declared.unit.Statement.{Statement}
 use Rattle.m88_parse.specs.declared.unit.Unit.{Unit as Source}
 use Rattle.m88_disasm.specs.Read.{unlabelled}
 use Rattle.m88_disasm.proofs.Parts.{are_printed, is_printed}
-use Rattle.m88_disasm.proofs.Spoken.{Spoken}
+use Rattle.m88_disasm.proofs.Spoken.{SpokenAs}
 
 both : (a b : Bool) → (a && b) ≡ true → (a ≡ true) × (b ≡ true)
 both true b e = (refl, e)
@@ -42,54 +42,54 @@ first_line_is (b ∷ bs) rest h =
     let f : (b == 13) ≡ false = grind (arith, nat_tests) in
     inner_byte b (bs ++ 10 ∷ rest) e f ∙ ap (on_first_line b) (first_line_is bs rest k.1)
 
--- lines from a number on, each read as a statement with the body at its place
-abbrev pub Stated : ℕ → List (List ℕ) → List Body → Type 0
+-- lines from a number on, each read as the statement at its place
+abbrev pub Stated : ℕ → List (List ℕ) → List Statement → Type 0
 Stated number [] [] = Unit {0}
-Stated number (line ∷ lines) (said ∷ others) = Spoken number line said × Stated (number + 1) lines others
+Stated number (line ∷ lines) (x ∷ xs) = SpokenAs number line x × Stated (number + 1) lines xs
 Stated number _ _ = ⊥
 
-pub stated_behind : (number later : ℕ) (ls ms : List (List ℕ)) (bs cs : List Body) → later ≡ number + length ls
-    → Stated number ls bs → Stated later ms cs → Stated number (ls ++ ms) (bs ++ cs)
-stated_behind number later [] ms [] cs e h k =
-    let same : later ≡ number = omega (arith, e) in subst (λ (n : ℕ). Stated n ms cs) same k
-stated_behind number later (l ∷ ls) ms (b ∷ bs) cs e h k =
-    (h.0, stated_behind (number + 1) later ls ms bs cs (omega (arith, e)) h.1 k)
-stated_behind number later [] ms (b ∷ bs) cs e h k = absurd h
-stated_behind number later (l ∷ ls) ms [] cs e h k = absurd h
+pub stated_behind : (number later : ℕ) (ls ms : List (List ℕ)) (xs ys : List Statement) → later ≡ number + length ls
+    → Stated number ls xs → Stated later ms ys → Stated number (ls ++ ms) (xs ++ ys)
+stated_behind number later [] ms [] ys e h k =
+    let same : later ≡ number = omega (arith, e) in subst (λ (n : ℕ). Stated n ms ys) same k
+stated_behind number later (l ∷ ls) ms (x ∷ xs) ys e h k =
+    (h.0, stated_behind (number + 1) later ls ms xs ys (omega (arith, e)) h.1 k)
+stated_behind number later [] ms (x ∷ xs) ys e h k = absurd h
+stated_behind number later (l ∷ ls) ms [] ys e h k = absurd h
 
--- the statements of bodies in lines from a number on
+-- the statements of bodies without labels in lines from a number on
 abbrev pub numbered : ℕ → List Body → List Statement
 numbered number [] = []
 numbered number (b ∷ bs) = unlabelled number b ∷ numbered (number + 1) bs
 
-lines_are : (number : ℕ) (ls : List (List ℕ)) (bs : List Body) → Stated number ls bs → lines_of (text_of_lines ls) ≡ ls
+lines_are : (number : ℕ) (ls : List (List ℕ)) (xs : List Statement) → Stated number ls xs
+    → lines_of (text_of_lines ls) ≡ ls
 lines_are number [] [] h = no_lines
-lines_are number (l ∷ ls) (b ∷ bs) h =
+lines_are number (l ∷ ls) (x ∷ xs) h =
     ap lines_of (append_assoc l line_end (text_of_lines ls))
     ∙ first_line_is l (text_of_lines ls) h.0.printed
-    ∙ ap (λ (ms : List (List ℕ)). let ns : List (List ℕ) = l ∷ ms in ns) (lines_are (number + 1) ls bs h.1)
-lines_are number [] (b ∷ bs) h = absurd h
+    ∙ ap (λ (ms : List (List ℕ)). let ns : List (List ℕ) = l ∷ ms in ns) (lines_are (number + 1) ls xs h.1)
+lines_are number [] (x ∷ xs) h = absurd h
 lines_are number (l ∷ ls) [] h = absurd h
 
-rows_are : (number : ℕ) (ls : List (List ℕ)) (bs : List Body) → Stated number ls bs
-    → AreRows number ls (numbered number bs) []
+rows_are : (number : ℕ) (ls : List (List ℕ)) (xs : List Statement) → Stated number ls xs → AreRows number ls xs []
 rows_are number [] [] h = no_row
-rows_are number (l ∷ ls) (b ∷ bs) h =
-    row_of_statement h.0.read.are_tokens (statement_line h.0.read.statement) (rows_are (number + 1) ls bs h.1)
-rows_are number [] (b ∷ bs) h = absurd h
+rows_are number (l ∷ ls) (x ∷ xs) h =
+    row_of_statement h.0.are_tokens (statement_line h.0.statement) (rows_are (number + 1) ls xs h.1)
+rows_are number [] (x ∷ xs) h = absurd h
 rows_are number (l ∷ ls) [] h = absurd h
 
--- the unit of bodies in lines from the first on
-abbrev pub unit_of_bodies : List Body → Source
-unit_of_bodies bs = record { modules = record { name = codes "main"; line = 1; statements = numbered 1 bs } ∷ [] }
+-- the unit of statements in lines from the first on
+abbrev pub unit_of : List Statement → Source
+unit_of xs = record { modules = record { name = codes "main"; line = 1; statements = xs } ∷ [] }
 
-pub unit_is : (ls : List (List ℕ)) (bs : List Body) (text : List ℕ) → text ≡ text_of_lines ls → Stated 1 ls bs
-    → IsUnit text (unit_of_bodies bs)
-unit_is ls bs text text_is h = record {
-  statements = numbered 1 bs;
+pub unit_is : (ls : List (List ℕ)) (xs : List Statement) (text : List ℕ) → text ≡ text_of_lines ls → Stated 1 ls xs
+    → IsUnit text (unit_of xs)
+unit_is ls xs text text_is h = record {
+  statements = xs;
   modules = [];
   are_rows =
-      subst (λ (ms : List (List ℕ)). AreRows 1 ms (numbered 1 bs) [])
-      (sym (ap lines_of text_is ∙ lines_are 1 ls bs h)) (rows_are 1 ls bs h);
+      subst (λ (ms : List (List ℕ)). AreRows 1 ms xs []) (sym (ap lines_of text_is ∙ lines_are 1 ls xs h))
+      (rows_are 1 ls xs h);
   are_modules = only_main;
 }

@@ -1,8 +1,9 @@
 -- The text of each instruction is read as that instruction.
 use Rattle.std.proofs.Common.{◌≡◌, ◌≢◌, ℕ, ℤ, pos, negsuc, ◌+◌, ◌<◌, ◌^◌, Bool, true, false, ◌==◌, inl, inr, List, [], ◌∷◌, ◌++◌, length, get_or, refl, sym, ap, subst, ◌∙◌, arith, append_assoc, append-nil, codes, decimal, eqb-true}
-use Rattle.std.specs.Prelude.{None, Some}
+use Rattle.std.specs.Prelude.{None, Option, Some}
 use Rattle.m88_base.specs.Hex.{hex2, hex8}
 use Rattle.m88_base.specs.Reg.{number_of}
+use Rattle.m88_base.specs.declared.fixup.Fixup.{Fixup}
 use Rattle.m88_base.specs.declared.reg.Reg.{Reg}
 use Rattle.m88_isa.specs.Instr.{FitsWords, IsValid, IsWidth}
 use Rattle.m88_isa.specs.Word.{word_of}
@@ -14,36 +15,51 @@ use Rattle.m88_parse.specs.Language.Names.{IsCondition, IsControlName, IsSymbolN
 use Rattle.m88_parse.specs.Language.Operands.{AreOperands}
 use Rattle.m88_parse.specs.Language.Pieces.{Piece}
 use Rattle.m88_isa.specs.Names.{bits_name, bound_name, branch_bit_name, branch_cond_name, branch_name, operation_name, return_name, trap_bit_name, trap_cond_name, xcr_name}
-use Rattle.m88_parse.specs.Language.Statements.{BeginsWithNoColon, IsBody, at, byte, code, one, set as set_symbol, unlabelled, word}
+use Rattle.m88_parse.specs.Language.Statements.{BeginsWithNoColon, IsBody, IsStatement, at, byte, code, one, set as set_symbol, unlabelled, word}
+use Rattle.m88_parse.specs.Language.Tokens.{LineTokens}
 use Rattle.m88_parse.specs.declared.unit.Value.TheVariants.{Number}
 use Rattle.m88_parse.specs.Language.Words.{condition_named}
 use Rattle.m88_parse.specs.declared.unit.Body.{Body}
+use Rattle.m88_parse.specs.declared.unit.Statement.{Statement}
 use Rattle.m88_parse.specs.declared.unit.Body.TheVariants as body
 use Rattle.m88_disasm.specs.Listing.{lone_byte_line, place_line, start_line}
-use Rattle.m88_disasm.specs.Read.{IsReadAs, said_body}
+use Rattle.m88_disasm.specs.Read.{IsReadAs, said_body, unlabelled as without_label}
 use Rattle.m88_disasm.specs.Text.{condition, control, field, instr_text, register_name, scaled, spelled, target_operand, word_text}
 use Rattle.m88_disasm.proofs.Parts.{AreGood, IsGood, Part, are_parted, are_printed, byte_part_good, is_mark_part, is_name_text, line_pieces, line_printed, line_tokens, name_is_printed, operation_named, name_token, numbered_name, part_hex, part_mark, part_name, part_number, part_says, part_text, parts_text, piece_of, pieces, word_name, word_part_good}
 use Rattle.m88_disasm.proofs.Forms.{bits_register_form, bound_number_form, bound_register_form, branch_bit_form, branch_cond_form, branch_form, distance_of, field_form, find_form, imm_form, jump_form, lda_form, ldcr_form, mem_imm_form, mem_index_form, mem_scaled_form, reg_form, return_form, rotation_form, sign_of, stcr_form, trap_bit_form, trap_cond_form, xcr_form}
 
--- a line that ends nowhere within and is read as a statement
+-- a line that ends nowhere within and is read as this statement
+pub record SpokenAs (number : ℕ) (line : List ℕ) (x : Statement) : Type 0 where
+  pub tokens : List Piece
+  pub are_tokens : LineTokens line tokens
+  pub statement : IsStatement number tokens x
+  pub printed : are_printed line ≡ true
+
+-- such a line, of a statement without a label
 pub record Spoken (number : ℕ) (line : List ℕ) (said : Body) : Type 0 where
   pub read : IsReadAs number line said
   pub printed : are_printed line ≡ true
+
+-- it is read as this statement
+pub spoken : (number : ℕ) (line : List ℕ) (said : Body) → Spoken number line said
+    → SpokenAs number line (without_label number said)
+spoken number line said s =
+    record { tokens = s.read.tokens; are_tokens = s.read.are_tokens; statement = s.read.statement; printed = s.printed }
 
 -- no mark comes first, so no colon
 no_colon : (col : ℕ) (p : Part) (ps : List Part) → is_mark_part p ≡ false → BeginsWithNoColon (pieces col (p ∷ ps))
 no_colon col (part_mark b) ps e = absurd cc
 no_colon col _ ps e = λ h. cc
 
--- a mnemonic and operands that are an instruction's
-says_code : (p : Part) (ps : List Part) (i : Instr) (number : ℕ) (text : List ℕ)
+-- a mnemonic and operands that are an instruction's, which may wait for a name
+pub says_waiting : (p : Part) (ps : List Part) (i : Instr) (f : Option Fixup) (number : ℕ) (text : List ℕ)
     → text ≡ operation_name i ++ 32 ∷ parts_text (p ∷ ps) → AreGood (p ∷ ps) → are_parted (p ∷ ps) ≡ true
     → is_mark_part p ≡ false
-    → AreOperands (pieces (1 + length (operation_name i) + 1) (p ∷ ps)) i None
-    → Spoken number text (body.Code i None)
-says_code p ps i number text text_is goods parted first operands =
+    → AreOperands (pieces (1 + length (operation_name i) + 1) (p ∷ ps)) i f
+    → Spoken number text (body.Code i f)
+says_waiting p ps i f number text text_is goods parted first operands =
     let line : List ℕ = operation_name i ++ 32 ∷ parts_text (p ∷ ps) in
-    let said : Spoken number line (body.Code i None) = record {
+    let said : Spoken number line (body.Code i f) = record {
       read = record {
         tokens = line_pieces (operation_name i) (p ∷ ps);
         are_tokens = line_tokens (operation_name i) p ps (operation_named i) goods parted;
@@ -52,17 +68,26 @@ says_code p ps i number text text_is goods parted first operands =
       };
       printed = line_printed (operation_name i) (p ∷ ps) (operation_named i) goods;
     } in
-    subst (λ (l : List ℕ). Spoken number l (body.Code i None)) (sym text_is) said
+    subst (λ (l : List ℕ). Spoken number l (body.Code i f)) (sym text_is) said
+
+-- one that waits for none
+says_code : (p : Part) (ps : List Part) (i : Instr) (number : ℕ) (text : List ℕ)
+    → text ≡ operation_name i ++ 32 ∷ parts_text (p ∷ ps) → AreGood (p ∷ ps) → are_parted (p ∷ ps) ≡ true
+    → is_mark_part p ≡ false
+    → AreOperands (pieces (1 + length (operation_name i) + 1) (p ∷ ps)) i None
+    → Spoken number text (body.Code i None)
+says_code p ps i number text text_is goods parted first operands =
+    says_waiting p ps i None number text text_is goods parted first operands
 
 -- names and marks
-abbrev reg_part : Reg → Part
+abbrev pub reg_part : Reg → Part
 reg_part r = part_name (register_name r)
 
 -- the mark between two operands
-abbrev comma : Part
+abbrev pub comma : Part
 comma = part_mark 44
 
-reg_good : (r : Reg) → IsGood (reg_part r)
+pub reg_good : (r : Reg) → IsGood (reg_part r)
 reg_good r = let below : number_of r < 32 = r.in_range in
     numbered_name 114 [] (number_of r) refl refl (omega arith) (omega arith)
 
@@ -70,16 +95,16 @@ control_good : (float : Bool) (cr : ℕ) → cr < 64 → IsGood (part_name (cont
 control_good true cr small = numbered_name 102 (codes "cr") cr refl refl (omega arith) (omega arith)
 control_good false cr small = numbered_name 99 (codes "r") cr refl refl (omega arith) (omega arith)
 
-comma_good : IsGood comma
+pub comma_good : IsGood comma
 comma_good = (refl, refl, refl)
 
 -- a condition by its name or its number
-record ConditionPart (mask : ℕ) : Type 0 where
-  part : Part
-  text_is : condition mask ≡ part_text part
-  good : IsGood part
-  plain : is_mark_part part ≡ false
-  read : (p : Piece) → p.says ≡ part_says part → IsCondition mask p
+pub record ConditionPart (mask : ℕ) : Type 0 where
+  pub part : Part
+  pub text_is : condition mask ≡ part_text part
+  pub good : IsGood part
+  pub plain : is_mark_part part ≡ false
+  pub read : (p : Piece) → p.says ≡ part_says part → IsCondition mask p
 
 named_condition : (mask : ℕ) (name : List ℕ) → condition mask ≡ name → is_name_text name ≡ true
     → condition_named name ≡ Some mask → ConditionPart mask
@@ -91,7 +116,7 @@ named_condition mask name text_is good is = record {
   read = λ p e. inr (name, e, is);
 }
 
-condition_part : (mask : ℕ) → mask < 16 → ConditionPart mask
+pub condition_part : (mask : ℕ) → mask < 16 → ConditionPart mask
 unfolding condition condition_named
 condition_part mask small = by1 (mask == 1) refl
   where
@@ -352,7 +377,7 @@ said_return number =
     subst (λ (l : List ℕ). Spoken number l (body.Code instr.Rte None)) (sym (append-nil return_name)) alone
 
 -- the operands of a directive behind its name
-says_body : (name : List ℕ) (p : Part) (ps : List Part) (number : ℕ) (said : Body) → is_name_text name ≡ true
+pub says_body : (name : List ℕ) (p : Part) (ps : List Part) (number : ℕ) (said : Body) → is_name_text name ≡ true
     → AreGood (p ∷ ps) → are_parted (p ∷ ps) ≡ true → is_mark_part p ≡ false
     → IsBody (line_pieces name (p ∷ ps)) said → Spoken number (name ++ 32 ∷ parts_text (p ∷ ps)) said
 says_body name p ps number said named goods parted first is = record {
@@ -386,7 +411,7 @@ said_place number a small =
 other_first : (b : ℕ) (name : List ℕ) → codes "_start" ≡ name → get_or name 0 0 ≡ b → b ≢ 95 → ⊥
 other_first b name e f other = other (sym (ap (λ (xs : List ℕ). get_or xs 0 0) e ∙ f))
 
-start_symbol : IsSymbolName (codes "_start")
+pub start_symbol : IsSymbolName (codes "_start")
 start_symbol = record {
   valid = word_name (codes "_start") refl;
   no_place = λ e. cc;

@@ -9,5 +9,8 @@ mod operand;
 mod put;
 mod text;
 
-pub use lister::listing;
-pub use text::text_of;
+pub use lister::{listing, push_byte, push_hexadecimal, push_line, push_place, push_start};
+pub use mnemonics::{of_branch, of_branch_bit, of_branch_cond};
+pub use operand::{Condition, Operand};
+pub use put::InstrText;
+pub use text::{alone, text_of, with_two};

@@ -21,7 +21,7 @@ const MOST_LINE: usize = MOST_TEXT + 1;
 const MOST_PER_BYTE: usize = MOST_LINE + 15;
 
 /// Appends 0x, a word in eight digits, and a line end.
-fn push_hexadecimal(text: &mut Vec<u8>, n: u32) -> Result<(), AllocError>
+pub fn push_hexadecimal(text: &mut Vec<u8>, n: u32) -> Result<(), AllocError>
     ensures { OnOk result (text.new.items ≡ text.old.items ++ (hexadecimal n ++ line_end)) }
 {
     text.extend_from_slice(b"0x")?;
@@ -31,7 +31,7 @@ fn push_hexadecimal(text: &mut Vec<u8>, n: u32) -> Result<(), AllocError>
 }
 
 /// Appends the line that says where the program starts.
-fn push_start(text: &mut Vec<u8>, start: u32) -> Result<(), AllocError>
+pub fn push_start(text: &mut Vec<u8>, start: u32) -> Result<(), AllocError>
     ensures { OnOk result (text.new.items ≡ text.old.items ++ (start_line start ++ line_end)) }
 {
     text.extend_from_slice(b".set _start,")?;
@@ -39,7 +39,7 @@ fn push_start(text: &mut Vec<u8>, start: u32) -> Result<(), AllocError>
 }
 
 /// Appends the line that says where a part begins.
-fn push_place(text: &mut Vec<u8>, at: u32) -> Result<(), AllocError>
+pub fn push_place(text: &mut Vec<u8>, at: u32) -> Result<(), AllocError>
     ensures { OnOk result (text.new.items ≡ text.old.items ++ (place_line at ++ line_end)) }
 {
     text.extend_from_slice(b".at ")?;
@@ -47,7 +47,7 @@ fn push_place(text: &mut Vec<u8>, at: u32) -> Result<(), AllocError>
 }
 
 /// Appends the line of a byte by itself.
-fn push_byte(text: &mut Vec<u8>, b: u8) -> Result<(), AllocError>
+pub fn push_byte(text: &mut Vec<u8>, b: u8) -> Result<(), AllocError>
     ensures { OnOk result (text.new.items ≡ text.old.items ++ (lone_byte_line b ++ line_end)) }
 {
     text.extend_from_slice(b".byte 0x")?;
@@ -57,7 +57,7 @@ fn push_byte(text: &mut Vec<u8>, b: u8) -> Result<(), AllocError>
 }
 
 /// Appends a line.
-fn push_line(text: &mut Vec<u8>, line: &[u8]) -> Result<(), AllocError>
+pub fn push_line(text: &mut Vec<u8>, line: &[u8]) -> Result<(), AllocError>
     ensures { OnOk result (text.new.items ≡ text.old.items ++ (line.now ++ line_end)) }
 {
     text.extend_from_slice(line)?;

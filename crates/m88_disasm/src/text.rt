@@ -32,7 +32,7 @@ fn put_next<A: Operand>(text: &mut InstrText, a: A)
 
 /// A mnemonic without operands.
 #[tactic(auto, using(crate::proofs::Names::name_short))]
-fn alone(mnemonic: Mnemonic) -> InstrText
+pub fn alone(mnemonic: Mnemonic) -> InstrText
     ensures { result.bytes ≡ spelled (spelling mnemonic) [] }
 {
     let mut text = InstrText::new();
@@ -50,7 +50,7 @@ fn with_one<A: Operand>(mnemonic: Mnemonic, a: A) -> InstrText
 }
 
 /// A mnemonic and two operands.
-fn with_two<A: Operand, B: Operand>(mnemonic: Mnemonic, a: A, b: B) -> InstrText
+pub fn with_two<A: Operand, B: Operand>(mnemonic: Mnemonic, a: A, b: B) -> InstrText
     ensures { result.bytes ≡ spelled (spelling mnemonic) (A.written a ∷ B.written b ∷ []) }
 {
     let mut text = begun(mnemonic);
