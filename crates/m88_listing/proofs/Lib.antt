@@ -1,6 +1,7 @@
 -- What only helps the proofs.
 pub mod Texts
 pub mod Lines
+pub mod Bare
 pub mod NextNumber
 pub mod Standings
 pub mod Keeping

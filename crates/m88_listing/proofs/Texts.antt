@@ -1,6 +1,6 @@
 -- Lines appended to a text, and the lines of a row.
-use Rattle.std.proofs.Common.{◌≡◌, ℕ, ◌+◌, ◌-◌, ◌<◌, Bool, true, false, List, [], ◌∷◌, ◌++◌, length, map, take, drop, min, refl, sym, ap, ◌∙◌, append_assoc, arith, length-append, Option, Some}
-use Rattle.std.specs.Prelude.{codes, decimal, if◌then◌else◌, ◌==◌, slice_get}
+use Rattle.std.proofs.Common.{◌≡◌, ℕ, ◌+◌, ◌-◌, ◌<◌, Bool, true, false, List, [], ◌∷◌, ◌++◌, length, map, take, drop, min, refl, sym, ap, ◌∙◌, append_assoc, arith, length-append, Option}
+use Rattle.std.specs.Prelude.{codes, decimal, if◌then◌else◌, ◌==◌}
 use Rattle.std.specs.List.{enumerate_from}
 use Rattle.std.proofs.lemmas.Grind.{common_steps}
 use Rattle.std.proofs.lemmas.List.{append-nil, drop_min, nil_from_length, take_min}
@@ -99,26 +99,24 @@ shown_row found number n line old mid new bytes shown behind s is all few front 
     ∙ rw is refl
 
 -- the lines for the next line of a source, where the next slot is that of it
-pub row_next : (found : ℕ → Option ℕ) (number : ℕ) (line old new : List ℕ) (s : Slot) (slots : List Slot) (lines : List (List ℕ))
-    → slice_get slots 0 ≡ Some s → s.line ≡ number → new ≡ old ++ text_of_lines (row_lines number line (kept_row found s))
-    → new ++ text_of_lines (walked found (number + 1) lines (drop 1 slots)) ≡ old ++ text_of_lines (walked found number (line ∷ lines) slots)
-row_next found number line old new s [] lines first is e = cc
-row_next found number line old new s (t ∷ ss) lines first is e =
-    let same : t ≡ s = cc in
-    let own : row_lines number line (kept_row found s) ≡ row_lines number line (kept_row found t) = ap (λ x. row_lines number line (kept_row found x)) (sym same) in
+pub row_next : (found : ℕ → Option ℕ) (number : ℕ) (line old new : List ℕ) (s : Slot) (ss : List Slot) (lines : List (List ℕ))
+    → s.line ≡ number → new ≡ old ++ text_of_lines (row_lines number line (kept_row found s))
+    → new ++ text_of_lines (walked found (number + 1) lines ss) ≡ old ++ text_of_lines (walked found number (line ∷ lines) (s ∷ ss))
+row_next found number line old new s ss lines is e =
+    let own : List (List ℕ) = row_lines number line (kept_row found s) in
     let rest = walked found (number + 1) lines ss in
-    ap (λ x. x ++ text_of_lines rest) (e ∙ ap (λ ls. old ++ text_of_lines ls) own)
-    ∙ append_assoc old (text_of_lines (row_lines number line (kept_row found t))) (text_of_lines rest)
-    ∙ ap (λ x. old ++ x) (sym (text_append (row_lines number line (kept_row found t)) rest))
-    ∙ ap (λ ls. old ++ text_of_lines ls) (by (t.line == number) (ap (λ n. n == number) (ap (λ (x : Slot). x.line) same ∙ is) ∙ same_number number))
+    ap (λ x. x ++ text_of_lines rest) e
+    ∙ append_assoc old (text_of_lines own) (text_of_lines rest)
+    ∙ ap (λ x. old ++ x) (sym (text_append own rest))
+    ∙ ap (λ ls. old ++ text_of_lines ls) (by (s.line == number) (ap (λ n. n == number) is ∙ same_number number))
   where
     same_number : (n : ℕ) → (n == n) ≡ true
     same_number n = grind (arith, common_steps)
 
     by : (b : Bool) → b ≡ true
-        → row_lines number line (kept_row found t) ++ walked found (number + 1) lines ss
-        ≡ (if b then row_lines number line (kept_row found t) ++ walked found (number + 1) lines ss
-        else bare_line number line ∷ walked found (number + 1) lines (t ∷ ss))
+        → row_lines number line (kept_row found s) ++ walked found (number + 1) lines ss
+        ≡ (if b then row_lines number line (kept_row found s) ++ walked found (number + 1) lines ss
+        else bare_line number line ∷ walked found (number + 1) lines (s ∷ ss))
     by true is = refl
     by false is = cc
 

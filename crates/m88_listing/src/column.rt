@@ -1,9 +1,12 @@
 //! The columns of lines that give no bytes, counted on from line to line.
-ghost use Rattle.std.specs.Prelude.{◌≡◌, ◌+◌, ◌<◌, ◌^◌, ◌++◌, [], decimal, OnOk};
-ghost use Rattle.m88_base.specs.Lines.{line_end};
+ghost use Rattle.std.specs.Prelude.{◌≡◌, ◌+◌, ◌<◌, ◌^◌, ◌++◌, [], decimal, length, IfOk, MatchOption, OnOk};
+ghost use Rattle.m88_base.specs.Cut.{Lacks};
+ghost use Rattle.m88_base.specs.Lines.{line_end, line_feed};
 ghost use Rattle.m88_listing.specs.Columns.{at_right, bare_line, columns, no_address};
+ghost use Rattle.m88_listing.specs.Inside.Pushed.{IsFirstFeed, PushesFirst};
 
 use itoa::write_digits;
+use memchr::memchr_iter;
 use std::alloc::AllocError;
 use std::marker::Model;
 
@@ -64,8 +67,38 @@ impl Column {
         }
     }
 
-    /// Appends the line of the source behind its columns.
-    pub fn push_line(&self, text: &mut Vec<u8>, line: &[u8]) -> Result<(), AllocError>
+    /// Appends the first line of what is left of a source behind its columns, and answers what is left then. A line feed
+    /// that ends the line is taken along with it.
+    pub fn push_first<'a>(&self, text: &mut Vec<u8>, rest: &'a [u8]) -> Result<&'a [u8], AllocError>
+        requires { 0 < length rest.now }
+        ensures { IfOk result (λ left.
+            PushesFirst self.now rest.now text.old.items text.new.items left.now) }
+    {
+        let Some(len) = feed_at(rest) else {
+            self.push_line(text, rest)?;
+            return Ok(&[]);
+        };
+        let (ended, behind) = rest.split_at(len + 1);
+        let (line, _) = rest.split_at(len);
+        match line.split_last() {
+            None => {
+                text.extend_from_slice(&self.alone)?;
+                Ok(behind)
+            }
+            Some((b'\r', front)) => {
+                self.push_line(text, front)?;
+                Ok(behind)
+            }
+            Some(_) => {
+                text.extend_from_slice(&self.head)?;
+                text.extend_from_slice(ended)?;
+                Ok(behind)
+            }
+        }
+    }
+
+    /// Appends a line of the source behind its columns.
+    fn push_line(&self, text: &mut Vec<u8>, line: &[u8]) -> Result<(), AllocError>
         ensures { OnOk result
             (text.new.items ≡ text.old.items ++ (bare_line self.now line.now ++ line_end)) }
     {
@@ -98,4 +131,13 @@ fn head(number: u64) -> [u8; 40]
     let mut head = [b' '; 40];
     write_digits(number, &mut head, 7);
     head
+}
+
+/// How many bytes stand before the first line feed of a text; None where it has none. It is looked for near by first,
+/// since lines are short.
+fn feed_at(text: &[u8]) -> Option<usize>
+    ensures { MatchOption result (Lacks line_feed text.now) (IsFirstFeed text.now) }
+{
+    let mut feeds = memchr_iter(b'\n', text);
+    feeds.next()
 }

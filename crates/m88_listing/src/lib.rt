@@ -11,6 +11,7 @@ mod standing;
 mod sums;
 
 // The text.
+mod bare;
 mod column;
 mod columns;
 mod listing;

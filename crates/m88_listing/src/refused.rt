@@ -1,58 +1,23 @@
 //! The text of a source that is refused.
-ghost use Rattle.std.specs.Prelude.{◌≡◌, ◌+◌, ◌<◌, ◌≤◌, ◌^◌, ◌++◌, [], length, map, slice_index_or, IfOk, OnOk};
+ghost use Rattle.std.specs.Prelude.{◌≡◌, ◌≤◌, ◌++◌, [], length, map, slice_index_or, OnOk};
 ghost use Rattle.m88_base.specs.Lines.{line_end, lines_of};
 ghost use Rattle.m88_base.specs.Reading.{most_input};
-ghost use Rattle.m88_listing.specs.Inside.Pushed.{PushesLines};
 ghost use Rattle.m88_listing.specs.Refused.{below, mark_line, refused_text};
 
+use crate::bare::push_lines;
 use crate::column::Column;
-use crate::rows::next_line;
 use m88_base::{first_line, push_refused};
 use std::alloc::AllocError;
 
-/// Appends the first lines of what is left of a source, so many of them, behind their numbers, and answers what is left
-/// then.
-fn push_lines<'a>(
-    text: &mut Vec<u8>,
-    source: &'a [u8],
-    first: u64,
-    count: u64,
-) -> Result<&'a [u8], AllocError>
-    requires { 0 < length source.now → first + length source.now < 10 ^ 7 }
-    ensures { IfOk result (λ rest.
-        PushesLines source.now first count text.old.items text.new.items rest.now) }
+/// The first line of what is left of a source, empty where nothing is left.
+fn line_here(rest: &[u8]) -> &[u8]
+    ensures { result.now ≡ slice_index_or (lines_of rest.now) 0 [] }
 {
-    if source.is_empty() {
-        return Ok(source);
+    if rest.is_empty() {
+        return &[];
     }
-    let mut column = Column::new(first);
-    let mut rest = source;
-    let mut passed: u64 = 0;
-    while !rest.is_empty() && passed < count {
-        let (line, behind) = next_line(rest);
-        column.push_line(text, line)?;
-        column.count_on();
-        rest = behind;
-        passed += 1;
-    }
-    Ok(rest)
-}
-
-/// A line of a source by its index, empty where there is none.
-fn line_at(source: &[u8], index: u64) -> &[u8]
-    ensures { result.now ≡ slice_index_or (lines_of source.now) index [] }
-{
-    let mut rest = source;
-    let mut passed: u64 = 0;
-    while !rest.is_empty() {
-        let (line, behind) = first_line(rest);
-        if passed == index {
-            return line;
-        }
-        rest = behind;
-        passed += 1;
-    }
-    &[]
+    let (line, _) = first_line(rest);
+    line
 }
 
 /// Appends what stands below bytes before a mark.
@@ -90,9 +55,12 @@ pub(crate) fn push_refusal(
         (record { line = line; column = column; reason = reason.now })) }
 {
     let line = u64::from(line);
-    let rest = push_lines(text, source, 1, line)?;
-    push_mark(text, column, line_at(source, line.saturating_sub(1)))?;
+    let mut columns = Column::new(1);
+    let here = push_lines(text, &mut columns, source, line.max(1))?;
+    let rest = push_lines(text, &mut columns, here, line + 1)?;
+    push_mark(text, column, line_here(here))?;
     push_refused(text, line, column, reason)?;
-    push_lines(text, rest, line + 1, u64::MAX)?;
+    // No line has the number 0.
+    push_lines(text, &mut columns, rest, 0)?;
     Ok(())
 }

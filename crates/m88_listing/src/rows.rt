@@ -1,12 +1,13 @@
 //! The lines of a source with what they put where.
-ghost use Rattle.std.specs.Prelude.{◌≡◌, ◌+◌, ◌≤◌, ◌<◌, ◌^◌, ◌++◌, length, IfOk, OnOk};
+ghost use Rattle.std.specs.Prelude.{◌≡◌, ◌+◌, ◌≤◌, ◌<◌, ◌^◌, ◌++◌, length, OnOk};
 ghost use Rattle.std.specs.List.{All};
 ghost use Rattle.m88_base.specs.Image.{byte_at};
 ghost use Rattle.m88_base.specs.Lines.{lines_of, text_of_lines};
 ghost use Rattle.m88_base.specs.Reading.{most_input};
 ghost use Rattle.m88_listing.specs.Rows.{further_from, row_lines};
-ghost use Rattle.m88_listing.specs.Inside.Slots.{GoesBehind, IsNextLine, IsSlot, kept_row, walked};
+ghost use Rattle.m88_listing.specs.Inside.Slots.{IsSlot, kept_row, walked};
 
+use crate::bare::push_lines;
 use crate::column::Column;
 use crate::columns::{MOST_SHOWN, push_counted, push_further, push_shown, push_value};
 use crate::slots::{Shown, Slot};
@@ -72,47 +73,6 @@ fn push_bytes(
     Ok(())
 }
 
-/// Appends the lines for a line of a source, and answers for how many of the slots that are left: the first, where it
-/// is that of this line.
-fn push_next(
-    text: &mut Vec<u8>,
-    column: &Column,
-    line: &[u8],
-    slots: &[Slot],
-    image: &Image,
-) -> Result<usize, AllocError>
-    requires { All (IsSlot (byte_at image.now)) slots.now }
-    ensures { IfOk result
-        (GoesBehind (byte_at image.now) column.now line.now slots.now text.old.items text.new.items) }
-{
-    let number = column.number();
-    match slots.first() {
-        Some(slot) => {
-            if u64::from(slot.line) == number {
-                push_row(text, number, line, slot, image)?;
-                return Ok(1);
-            }
-            column.push_line(text, line)?;
-            Ok(0)
-        }
-        None => {
-            column.push_line(text, line)?;
-            Ok(0)
-        }
-    }
-}
-
-/// The first line of what is left of a source, and what is left behind it; one that is empty is seen at once.
-pub(crate) fn next_line(rest: &[u8]) -> (&[u8], &[u8])
-    requires { 0 < length rest.now }
-    ensures { IsNextLine rest.now result.0.now result.1.now }
-{
-    match rest.split_first() {
-        Some((b'\n', behind)) => (&[], behind),
-        _ => first_line(rest),
-    }
-}
-
 /// Appends the lines for all lines of a source, with what is kept of the rows of its image.
 pub(crate) fn push_source(
     text: &mut Vec<u8>,
@@ -127,13 +87,17 @@ pub(crate) fn push_source(
 {
     let mut rest = source;
     let mut column = Column::new(1);
-    let mut next = 0;
-    while !rest.is_empty() {
-        let (line, behind) = next_line(rest);
-        let (_, left) = slots.split_at(next);
-        next += push_next(text, &column, line, left, image)?;
-        rest = behind;
+    for slot in slots {
+        let here = push_lines(text, &mut column, rest, u64::from(slot.line))?;
+        if here.is_empty() {
+            return Ok(());
+        }
+        let (line, behind) = first_line(here);
+        push_row(text, column.number(), line, slot, image)?;
         column.count_on();
+        rest = behind;
     }
+    // No line has the number 0.
+    push_lines(text, &mut column, rest, 0)?;
     Ok(())
 }

@@ -3,7 +3,7 @@ use Rattle.std.specs.Prelude.{ℕ, ◌≡◌, ◌+◌, ◌<◌, ◌≤◌, ◌^�
 use Rattle.std.specs.List.{range_with_len}
 use Rattle.std.specs.Option.{option_map_or}
 use Rattle.m88_base.specs.Image.{most_bytes}
-use Rattle.m88_base.specs.Lines.{lines_of, text_of_lines}
+use Rattle.m88_base.specs.Lines.{text_of_lines}
 use Rattle.m88_parse.specs.WellFormed.{IsFormedBody}
 use Rattle.m88_parse.specs.declared.unit.Statement.{Statement}
 use Rattle.m88_asm.specs.Counters.{Counters, Located, after, at_begin, length_of, offset_of}
@@ -114,16 +114,3 @@ ModuleFits b = AllFit b at_begin b.part.statements
 pub record PutsSlot (b : Placement Module) (r : Located) (later : Counters) (first now : List Slot) : Type 0 where
   pub cursor : later ≡ after r.before r.statement.body
   pub slots : now ≡ first ++ slots_at b r
-
--- so many of the slots belong to a line of a source, whose lines were added
-pub record GoesBehind (found : ℕ → Option ℕ) (number : ℕ) (line : List ℕ) (slots : List Slot) (first now : List ℕ)
-    (count : ℕ) : Type 0 where
-  pub within : count ≤ length slots
-  pub lines : (lines : List (List ℕ)) →
-      now ++ text_of_lines (walked found (number + 1) lines (drop count slots))
-      ≡ first ++ text_of_lines (walked found number (line ∷ lines) slots)
-
--- the first line of what is left of a source, and what is left behind it
-pub record IsNextLine (rest line behind : List ℕ) : Type 0 where
-  pub lines : lines_of rest ≡ line ∷ lines_of behind
-  pub shorter : length behind < length rest

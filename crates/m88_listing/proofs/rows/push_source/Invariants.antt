@@ -5,13 +5,10 @@ use Rattle.m88_base.specs.Lines.{lines_of, text_of_lines}
 use Rattle.m88_listing.specs.Inside.Slots.{walked}
 use Rattle.m88_listing.proofs.rows.push_source.Given as goal
 
-abbrev pub invariant-loop-rest : goal.invariant-loop-rest
-invariant-loop-rest l = record {
-  left : l.text.items ++ text_of_lines (walked (byte_at l.image) l.column (lines_of l.rest) (drop l.next l.slots))
+abbrev pub invariant-loop-slot : goal.invariant-loop-slot
+invariant-loop-slot l = record {
+  left : l.text.items ++ text_of_lines (walked (byte_at l.image) l.column (lines_of l.rest) (drop l.slot-index l.slots))
       ≡ l.initial.text.items ++ text_of_lines (walked (byte_at l.image) 1 (lines_of l.source) l.slots);
-  within : l.next ≤ length l.slots;
+  numbered : 1 ≤ l.column;
   place : l.column + length l.rest ≤ 1 + length l.source;
 }
-
-abbrev pub decreases-loop-rest : goal.decreases-loop-rest
-decreases-loop-rest l = length l.rest
