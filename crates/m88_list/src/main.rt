@@ -2,13 +2,14 @@
 //! file, a pipe or a terminal gave or took is outside every promise, and so is what stands on standard error.
 #![tactic(auto)]
 
+mod finding;
 #[cfg(test)]
 mod tests;
 
+use crate::finding::Finding;
 use m88_base::{MOST_INPUT, Status, StdSink, StdSource};
-use m88_edge::{Keeping, Refused, Showing};
+use m88_edge::{Keeping, Refused};
 use m88_listing::m88list;
-use memchr::memmem;
 use std::env;
 use std::process::ExitCode;
 
@@ -35,31 +36,20 @@ fn main(rt: HostRuntime) -> ExitCode {
 /// refused, since the listing may go to a file.
 fn carry_out(rt: &HostRuntime, words: &[String]) -> Status {
     let mut source = Keeping::new(rt.alloc(), StdSource::new(rt.reader()), true);
-    let mut sink = Showing::new(rt.alloc(), StdSink::new(rt.stdout()), usize::MAX);
+    let mut sink = Finding::new(rt.alloc(), StdSink::new(rt.stdout()));
     let status = m88list(rt.alloc(), words, &mut source, &mut sink);
     if status == Status::Refused {
-        tell_refusal(rt, sink.front(), source.kept());
+        tell_refusal(rt, sink.line(), source.kept());
     }
     status
 }
 
 /// Tells where and why a source is refused, by the line of its listing that says so, and shows the line of the source.
-fn tell_refusal<'a>(rt: &HostRuntime, listing: Option<&'a [u8]>, source: Option<&'a [u8]>) {
-    let refused = match refused_line(listing) {
-        Some(line) => Refused::of("m88list", "", line, source),
-        None => None,
-    };
-    let _ = match refused {
+fn tell_refusal<'a>(rt: &HostRuntime, line: &'a [u8], source: Option<&'a [u8]>) {
+    let _ = match Refused::of("m88list", "", line, source) {
         Some(refused) => eprintln!(rt; "{refused}"),
         None => eprintln!(rt; "m88list: the source is refused; the listing says where"),
     };
-}
-
-/// The listing from the line on that refuses its source, the only one that doesn't begin with a number or a blank.
-fn refused_line(listing: Option<&[u8]>) -> Option<&[u8]> {
-    let listing = listing?;
-    let before = memmem::find(listing, b"\nrefused ")?;
-    listing.get(before + 1..)
 }
 
 /// Tells a person what an answer means.
