@@ -9,15 +9,17 @@ use Rattle.m88_link.specs.declared.object.Place.TheVariants.{At, DataSection, Te
 use Rattle.m88_asm.specs.Images.{unit_start}
 use Rattle.m88_asm.specs.Objects.{objects_of}
 
--- a section is text, data, or stands at an address of its own
+-- a section is text
 abbrev pub is_text : Place → Bool
 is_text Text = true
 is_text _ = false
 
+-- it is data
 abbrev pub is_data : Place → Bool
 is_data DataSection = true
 is_data _ = false
 
+-- it stands at an address of its own
 abbrev pub is_at : Place → Bool
 is_at (At address) = true
 is_at _ = false

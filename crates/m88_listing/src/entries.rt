@@ -1,5 +1,5 @@
 //! The symbols of a unit as they are listed.
-ghost use Rattle.std.specs.Prelude.{◌≡◌, ◌++◌, IfOk, OnOk, is_none, is_some, map};
+ghost use Rattle.std.specs.Prelude.{◌≡◌, ◌++◌, IfOk, OnOk, is_none, is_some};
 ghost use Rattle.std.specs.List.{flat_map};
 ghost use Rattle.m88_base.specs.Lines.{line_end, text_of_lines};
 ghost use Rattle.m88_listing.specs.Entries.{AreInOrder, entries_in, entry_line, entry_of, global_mark, section_mark};

@@ -12,27 +12,31 @@ use std::alloc::AllocError;
 /// The number of bytes of text, of data, and of the sections at addresses of their own.
 #[derive(Clone, Copy, PartialEq, Eq, Debug)]
 pub(crate) struct Sums {
-    pub text: usize,
-    pub data: usize,
-    pub at: usize,
+    pub text_size: usize,
+    pub data_size: usize,
+    pub at_size: usize,
 }
 
 /// The sums with the bytes of sections added.
 fn with_sections(sums: Sums, sections: &[Section]) -> Sums
-    requires { sums.text + sums.data + sums.at + sections_size sections.now ≤ most_bytes }
-    ensures text { result.text ≡ sums.text + sections_size (filter (λ x. is_text x.place) sections.now) }
-    ensures data { result.data ≡ sums.data + sections_size (filter (λ x. is_data x.place) sections.now) }
-    ensures at { result.at ≡ sums.at + sections_size (filter (λ x. is_at x.place) sections.now) }
-    ensures all { result.text + result.data + result.at
-        ≡ sums.text + sums.data + sums.at + sections_size sections.now }
+    requires { sums.text_size + sums.data_size + sums.at_size + sections_size sections.now
+        ≤ most_bytes }
+    ensures text { result.text_size
+        ≡ sums.text_size + sections_size (filter (λ x. is_text x.place) sections.now) }
+    ensures data { result.data_size
+        ≡ sums.data_size + sections_size (filter (λ x. is_data x.place) sections.now) }
+    ensures at { result.at_size
+        ≡ sums.at_size + sections_size (filter (λ x. is_at x.place) sections.now) }
+    ensures all { result.text_size + result.data_size + result.at_size
+        ≡ sums.text_size + sums.data_size + sums.at_size + sections_size sections.now }
 {
     let mut sums = sums;
     for section in sections {
         let len = section.bytes.as_slice().len();
         match section.place {
-            Place::Text => sums.text += len,
-            Place::DataSection => sums.data += len,
-            Place::At(_) => sums.at += len,
+            Place::Text => sums.text_size += len,
+            Place::DataSection => sums.data_size += len,
+            Place::At(_) => sums.at_size += len,
         }
     }
     sums
@@ -41,14 +45,14 @@ fn with_sections(sums: Sums, sections: &[Section]) -> Sums
 /// The sums of objects, which have at most 1,048,576 bytes.
 fn sums_of(objects: &[Object]) -> Sums
     requires { total_size objects.now ≤ most_bytes }
-    ensures text { result.text ≡ sum_where is_text objects.now }
-    ensures data { result.data ≡ sum_where is_data objects.now }
-    ensures at { result.at ≡ sum_where is_at objects.now }
+    ensures text { result.text_size ≡ sum_where is_text objects.now }
+    ensures data { result.data_size ≡ sum_where is_data objects.now }
+    ensures at { result.at_size ≡ sum_where is_at objects.now }
 {
     let mut sums = Sums {
-        text: 0,
-        data: 0,
-        at: 0,
+        text_size: 0,
+        data_size: 0,
+        at_size: 0,
     };
     for object in objects {
         sums = with_sections(sums, object.sections.as_slice());
@@ -68,11 +72,11 @@ pub(crate) fn push_sums(
 {
     let sums = sums_of(objects);
     text.extend_from_slice(b"\ntext ")?;
-    push_decimal(text, sums.text as u64)?;
+    push_decimal(text, sums.text_size as u64)?;
     text.extend_from_slice(b" data ")?;
-    push_decimal(text, sums.data as u64)?;
+    push_decimal(text, sums.data_size as u64)?;
     text.extend_from_slice(b" at ")?;
-    push_decimal(text, sums.at as u64)?;
+    push_decimal(text, sums.at_size as u64)?;
     text.extend_from_slice(b" start ")?;
     push_hex8(text, start)?;
     text.push(b'\n')?;
