@@ -1,7 +1,8 @@
 -- What only helps the proofs.
 pub mod Texts
 pub mod Lines
-pub mod Bare
+pub mod BareLines
+pub mod Blocks
 pub mod NextNumber
 pub mod Standings
 pub mod Keeping

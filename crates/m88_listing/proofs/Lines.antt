@@ -1,12 +1,12 @@
 -- The lines of a source: where they end, and what is written of one.
-use Rattle.std.proofs.Common.{◌≡◌, ℕ, zero, suc, ◌+◌, ◌-◌, ◌<◌, ◌≤◌, Bool, true, false, cond, ◌&&◌, not, List, [], ◌∷◌, ◌++◌, length, length-append, length-take-le, take, drop, get_or, refl, sym, ap, ◌∙◌, append_assoc, arith, take_all, take-append-drop, drop_of_length-le, Option, Some, None}
+use Rattle.std.proofs.Common.{◌≡◌, ℕ, zero, suc, ◌+◌, ◌-◌, ◌<◌, ◌≤◌, Bool, true, false, cond, ◌&&◌, not, List, [], ◌∷◌, ◌++◌, length, length-append, length-take-le, take, drop, get_or, refl, sym, subst, ap, ◌∙◌, append_assoc, arith, take-append-drop, drop_of_length-le, Option, Some, None}
 use Rattle.std.specs.Prelude.{◌==◌, decimal, flat_map, if◌then◌else◌, MatchOption}
 use Rattle.std.specs.List.{prefix_len}
 use Rattle.std.proofs.lemmas.Bool.{eqb-true}
 use Rattle.std.proofs.lemmas.List.{append-nil, drop_more}
-use Rattle.std.proofs.Math.Seq.{drop-append_seam, take-append-add, take-append_seam}
+use Rattle.std.proofs.Math.Seq.{drop-append-le, drop-append_seam, take-append-add, take-append-le, take-append_seam}
 use Rattle.memchr.specs.Find.{TakesFirst, is_byte, places, places_from}
-use Rattle.m88_base.proofs.Laws.{ends_last, ends_source, is_inner}
+use Rattle.m88_base.proofs.Laws.{ends_last, is_inner}
 use Rattle.m88_base.specs.Cut.{Lacks, lacks}
 use Rattle.m88_base.specs.Lines.{line_end, lines_of}
 use Rattle.m88_listing.specs.Columns.{at_right, bare_line, columns, no_address}
@@ -107,6 +107,17 @@ first_feed text left (Some at) found is e =
       feed = p.feed;
     }
 
+-- the first LF of a text is that of the text that it begins
+pub feed_ahead : (near back text : List ℕ) (n : ℕ) → near ++ back ≡ text → IsFirstFeed near n → IsFirstFeed text n
+feed_ahead near back text n is p = subst (λ (t : List ℕ). IsFirstFeed t n) is (record {
+  within = omega (arith, p.within, length-append near back);
+  before = ap (lacks 10) (take-append-le n near back (omega (arith, p.within))) ∙ p.before;
+  feed =
+      drop-append-le n near back (omega (arith, p.within))
+      ∙ ap (λ xs. xs ++ back) p.feed
+      ∙ ap (λ xs. 10 ∷ xs) (sym (drop-append-le (n + 1) near back (omega (arith, p.within))));
+})
+
 -- a text parted at its first LF
 pub parted : (rest line behind : List ℕ) (n : ℕ) → IsFirstFeed rest n → line ≡ take n rest → behind ≡ drop (n + 1) rest → rest ≡ line ++ 10 ∷ behind
 parted rest line behind n p front back =
@@ -128,13 +139,6 @@ before_lf (x ∷ xs) ys lack none = by (is_inner x) lack (λ k. before_lf xs ys 
     by true k more = omega (arith, more k)
     by false k more = absurd (cc)
 
--- a source without an LF is one line
-pub only_line : (rest : List ℕ) → 0 < length rest → lacks 10 rest ≡ true → lines_of rest ≡ rest ∷ lines_of []
-only_line rest some lack =
-    let all : prefix_len is_inner rest ≡ length rest = ap (prefix_len is_inner) (sym (append-nil rest)) ∙ before_lf rest [] lack refl in
-    ends_source rest some (drop_of_length-le rest (omega (arith, all)))
-    ∙ ap (λ l. l ∷ lines_of []) (take_all (prefix_len is_inner rest) rest (omega (arith, all)))
-
 -- the first line of a source, by the last byte before its LF
 by_last : (rest line behind front : List ℕ) (b : ℕ) → rest ≡ line ++ 10 ∷ behind → lacks 10 line ≡ true → line ≡ front ++ b ∷ []
     → lines_of rest ≡ cond (b == 13) front (front ++ b ∷ []) ∷ lines_of behind
@@ -143,11 +147,6 @@ by_last rest line behind front b is lack last =
     ends_last rest front b 10 behind
     (ap (λ k. drop k rest) n ∙ ap (drop (length line)) is ∙ drop-append_seam line (10 ∷ behind))
     (ap (λ k. take k rest) n ∙ ap (take (length line)) is ∙ take-append_seam line (10 ∷ behind) ∙ last)
-
-pub with_cr : (rest line behind front : List ℕ) (b : ℕ) → rest ≡ line ++ 10 ∷ behind → lacks 10 line ≡ true → line ≡ front ++ b ∷ [] → b ≡ 13
-    → lines_of rest ≡ front ∷ lines_of behind
-with_cr rest line behind front b is lack last cr =
-    by_last rest line behind front b is lack last ∙ ap (λ (x : ℕ). cond (x == 13) front (front ++ x ∷ []) ∷ lines_of behind) cr
 
 pub without_cr : (rest line behind front : List ℕ) (b : ℕ) → rest ≡ line ++ 10 ∷ behind → lacks 10 line ≡ true → line ≡ front ++ b ∷ []
     → (b == 13) ≡ false → lines_of rest ≡ line ∷ lines_of behind

@@ -1,9 +1,32 @@
 //! The lines of a source that give no bytes, behind their numbers.
-ghost use Rattle.std.specs.Prelude.{◌+◌, ◌<◌, ◌^◌, length, IfOk};
-ghost use Rattle.m88_listing.specs.Inside.Pushed.{PushesLines};
+ghost use Rattle.std.specs.Prelude.{◌+◌, ◌<◌, ◌^◌, ◌++◌, length, IfOk};
+ghost use Rattle.m88_listing.specs.Inside.Pushed.{PushesFirst, PushesLines};
 
+use crate::block::Block;
 use crate::column::Column;
+use m88_base::first_line;
 use std::alloc::AllocError;
+
+/// Adds the first line of what is left of a source to a text and the block behind it, and answers what is left then.
+fn push_next<'a>(
+    text: &mut Vec<u8>,
+    block: &mut Block,
+    column: &Column,
+    rest: &'a [u8],
+) -> Result<&'a [u8], AllocError>
+    requires { 0 < length rest.now }
+    ensures { IfOk result (λ left. PushesFirst column.now rest.now
+        (text.old.items ++ block.old) (text.new.items ++ block.new) left.now) }
+{
+    block.make_room(text)?;
+    if let Some(left) = column.put_short(block, rest) {
+        return Ok(left);
+    }
+    block.append_to(text)?;
+    let (line, left) = first_line(rest);
+    column.push_line(text, line)?;
+    Ok(left)
+}
 
 /// Appends the lines of what is left of a source behind their numbers, up to the line that has a number, or all where no
 /// line has it, and answers what is left then.
@@ -17,11 +40,16 @@ pub(crate) fn push_lines<'a>(
     ensures { IfOk result (λ left.
         PushesLines source.now column.old until column.new text.old.items text.new.items left.now) }
 {
+    if source.is_empty() || column.number() == until {
+        return Ok(source);
+    }
+    let mut block = Block::new();
     let mut rest = source;
     while !rest.is_empty() && column.number() != until {
-        let behind = column.push_first(text, rest)?;
+        let behind = push_next(text, &mut block, column, rest)?;
         column.count_on();
         rest = behind;
     }
+    block.append_to(text)?;
     Ok(rest)
 }

@@ -1,14 +1,18 @@
 //! The columns of lines that give no bytes, counted on from line to line.
-ghost use Rattle.std.specs.Prelude.{◌≡◌, ◌+◌, ◌<◌, ◌^◌, ◌++◌, [], decimal, length, IfOk, MatchOption, OnOk};
+ghost use Rattle.std.specs.Prelude.{◌≡◌, ◌+◌, ◌<◌, ◌≤◌, ◌^◌, ◌++◌, [], decimal, length, IfNone, IfSome, MatchOption, OnOk};
 ghost use Rattle.m88_base.specs.Cut.{Lacks};
 ghost use Rattle.m88_base.specs.Lines.{line_end, line_feed};
 ghost use Rattle.m88_listing.specs.Columns.{at_right, bare_line, columns, no_address};
 ghost use Rattle.m88_listing.specs.Inside.Pushed.{IsFirstFeed, PushesFirst};
 
+use crate::block::Block;
 use itoa::write_digits;
 use memchr::memchr_iter;
 use std::alloc::AllocError;
 use std::marker::Model;
+
+/// How many bytes a short line has at most, its end with them.
+const NEAR: usize = 64;
 
 /// The columns of a line that gives no bytes, by its number. `alone` is the whole line of an empty one, with its end;
 /// `head` stands before any other.
@@ -63,42 +67,51 @@ impl Column {
             self.alone[6] = digit;
             self.head[6] = digit;
         } else {
-            *self = Column::new(self.number + 1);
+            self.set(self.number + 1);
         }
     }
 
-    /// Appends the first line of what is left of a source behind its columns, and answers what is left then. A line feed
-    /// that ends the line is taken along with it.
-    pub fn push_first<'a>(&self, text: &mut Vec<u8>, rest: &'a [u8]) -> Result<&'a [u8], AllocError>
-        requires { 0 < length rest.now }
-        ensures { IfOk result (λ left.
-            PushesFirst self.now rest.now text.old.items text.new.items left.now) }
+    /// Makes of them the columns of the line of a number. It stands apart, so that counting on is short.
+    #[inline(never)]
+    fn set(&mut self, number: u64)
+        requires { number < 10 ^ 7 }
+        ensures { self.new ≡ number }
     {
-        let Some(len) = feed_at(rest) else {
-            self.push_line(text, rest)?;
-            return Ok(&[]);
-        };
-        let (ended, behind) = rest.split_at(len + 1);
-        let (line, _) = rest.split_at(len);
+        self.number = number;
+        self.alone = alone(number);
+        self.head = head(number);
+    }
+
+    /// Puts the first line of what is left of a source behind its columns into a block that has room for it, and answers
+    /// what is left then. None where that line is long, ends by CR LF, or stands near the end of the source.
+    pub fn put_short<'a>(&self, block: &mut Block, rest: &'a [u8]) -> Option<&'a [u8]>
+        requires { length block.old + 128 ≤ 1024 }
+        ensures some { IfSome result (λ left.
+            PushesFirst self.now rest.now block.old block.new left.now) }
+        ensures none { IfNone result (block.new ≡ block.old) }
+    {
+        let (near, _) = rest.split_at_checked(NEAR)?;
+        let len = feed_at(near)?;
+        let (line, _) = near.split_at(len);
+        let (_, left) = rest.split_at(len + 1);
         match line.split_last() {
             None => {
-                text.extend_from_slice(&self.alone)?;
-                Ok(behind)
+                block.put(&self.alone, 8);
+                Some(left)
             }
-            Some((b'\r', front)) => {
-                self.push_line(text, front)?;
-                Ok(behind)
-            }
-            Some(_) => {
-                text.extend_from_slice(&self.head)?;
-                text.extend_from_slice(ended)?;
-                Ok(behind)
+            Some((last, _)) => {
+                if *last == b'\r' {
+                    return None;
+                }
+                block.put(&self.head, 40);
+                block.put(near, len + 1);
+                Some(left)
             }
         }
     }
 
     /// Appends a line of the source behind its columns.
-    fn push_line(&self, text: &mut Vec<u8>, line: &[u8]) -> Result<(), AllocError>
+    pub fn push_line(&self, text: &mut Vec<u8>, line: &[u8]) -> Result<(), AllocError>
         ensures { OnOk result
             (text.new.items ≡ text.old.items ++ (bare_line self.now line.now ++ line_end)) }
     {

@@ -12,6 +12,7 @@ mod sums;
 
 // The text.
 mod bare;
+mod block;
 mod column;
 mod columns;
 mod listing;

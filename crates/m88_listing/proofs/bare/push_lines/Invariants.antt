@@ -5,14 +5,14 @@ use Rattle.m88_base.specs.Lines.{lines_of}
 use Rattle.m88_listing.specs.Refused.{bare_text}
 use Rattle.m88_listing.proofs.bare.push_lines.Given as goal
 
-abbrev pub invariant-loop-rest : goal.invariant-loop-rest
-invariant-loop-rest l = record {
-  text : l.text.items ≡ l.initial.text.items ++ bare_text (take (l.column - l.initial.column) (enumerate_from l.initial.column (lines_of l.source)));
+abbrev pub invariant-loop-column : goal.invariant-loop-column
+invariant-loop-column l = record {
+  text : l.text.items ++ l.block ≡ l.initial.text.items ++ bare_text (take (l.column - l.initial.column) (enumerate_from l.initial.column (lines_of l.source)));
   left : lines_of l.rest ≡ drop (l.column - l.initial.column) (lines_of l.source);
   forward : l.initial.column ≤ l.column;
   shorter : l.column + length l.rest ≤ l.initial.column + length l.source;
   within : l.initial.column ≤ l.until → l.column ≤ l.until;
 }
 
-abbrev pub decreases-loop-rest : goal.decreases-loop-rest
-decreases-loop-rest l = length l.rest
+abbrev pub decreases-loop-column : goal.decreases-loop-column
+decreases-loop-column l = length l.rest

@@ -81,7 +81,7 @@ returns c =
           listing_whole source c.push_source.new.text.items c.push_entries.new.text.items c.push_entries-2.new.text.items c.push_sums.new.text.items u c.args.image.now
           c.as_slice-5.result.now c.as_slice-6.result.now c.as_slice-7.result.now c.args.objects.now c.requires.accepted.is_unit c.requires.accepted.accepted c.requires.accepted.is_image kept named
           (c.in_ok-push_source.ensures
-          ∙ ap (λ (t : List ℕ). t ++ text_of_lines (walked found 1 (lines_of source) c.as_slice-5.result.now)) c.new-text.ensures.items)
+          ∙ ap (λ (t : List ℕ). t ++ text_of_lines (walked found 1 (lines_of source) c.as_slice-5.result.now)) c.in_ok-text.ensures.items)
           c.in_ok-push_entries.ensures c.in_ok-push_entries-2.ensures c.requires.accepted.are_objects
           (c.in_ok-push_sums.ensures ∙ ap (λ (n : ℕ). c.push_entries-2.new.text.items ++ (line_end ++ (sum_line c.args.objects.now n ++ line_end))) c.start.ensures);
     }

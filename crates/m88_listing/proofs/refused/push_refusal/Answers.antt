@@ -1,7 +1,7 @@
 -- The parts of the text one after the other.
 use Rattle.std.proofs.Common.{◌∙◌, ◌++◌, ℕ, ap, arith}
 use Rattle.m88_listing.specs.Refused.{refused_text}
-use Rattle.m88_listing.proofs.Bare.{refused_whole}
+use Rattle.m88_listing.proofs.BareLines.{refused_whole}
 use Rattle.m88_listing.proofs.refused.push_refusal.Goals as goal
 
 pub push_lines-requires : goal.push_lines-requires

@@ -2,7 +2,7 @@
 use Rattle.std.proofs.Common.{◌≡◌, arith, length}
 use Rattle.std.proofs.lemmas.Grind.{common_steps}
 use Rattle.m88_base.specs.Image.{byte_at}
-use Rattle.m88_listing.proofs.Bare.{none_walked, row_walked, walked_out}
+use Rattle.m88_listing.proofs.BareLines.{none_walked, row_walked, walked_out}
 use Rattle.m88_listing.proofs.rows.push_source.Goals as goal
 
 pub push_lines-requires : goal.push_lines-requires
@@ -19,7 +19,7 @@ pub returns-then-is_empty : goal.returns-then-is_empty
 returns-then-is_empty c =
     let none : length c.in_ok-here.here.now ≡ 0 = grind (arith, common_steps) in
     none_walked (byte_at c.args.image.now) c.loop-slot.rest.now c.in_ok-here.here.now c.loop-slot.text.items _ _ c.loop-slot.column c.from.result _
-    c.args.slots.now c.loop-slot.slot-index c.slot-item.result c.loop-slot-test.true c.slot-item.is c.from.ensures c.in_ok-here.ensures none
+    c.args.slots.now c.loop-slot.slot-index _ c.loop-slot-test.true c.from.ensures c.in_ok-here.ensures none
     c.loop-slot.invariant.left
 
 pub loop-slot-preserved : goal.loop-slot-preserved
@@ -29,7 +29,7 @@ loop-slot-preserved c =
       left =
           row_walked (byte_at c.args.image.now) c.loop-slot.rest.now c.in_ok-here.here.now c.first_line.result.1.now c.first_line.result.0.now
           c.loop-slot.text.items _ _ _ c.loop-slot.column c.from.result _ c.number.result _ c.args.slots.now c.loop-slot.slot-index
-          c.slot-item.result c.loop-slot-test.true c.slot-item.is c.from.ensures p (omega (arith, c.first_line.ensures.shorter))
+          _ c.loop-slot-test.true c.from.ensures p (omega (arith, c.first_line.ensures.shorter))
           c.first_line.ensures.lines c.number.ensures c.in_ok-push_row.ensures c.count_on.ensures c.loop-slot.invariant.left;
       numbered = omega (arith, c.count_on.ensures);
       place = omega (arith, c.count_on.ensures, c.first_line.ensures.shorter, p.shorter, c.loop-slot.invariant.place);

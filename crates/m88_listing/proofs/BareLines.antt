@@ -239,17 +239,17 @@ walked_out found source old new left end first last slots i some out p so_far =
     ∙ so_far
 
 -- where the next line has the slot, and its lines were added
-pub row_walked : (found : ℕ → Option ℕ) (source here behind line t0 t1 t2 end : List ℕ) (first until here_at number later : ℕ) (slots : List Slot) (i : ℕ) (s : Slot)
-    → i < length slots → s ≡ get_or slots i s → until ≡ s.line
+pub row_walked : (found : ℕ → Option ℕ) (source here behind line t0 t1 t2 end : List ℕ) (first until here_at number later : ℕ) (slots : List Slot) (i : ℕ) (d : Slot)
+    → i < length slots → until ≡ (get_or slots i d).line
     → PushesLines source first until here_at t0 t1 here → 0 < length here → lines_of here ≡ line ∷ lines_of behind
-    → number ≡ here_at → t2 ≡ t1 ++ text_of_lines (row_lines number line (kept_row found s)) → later ≡ here_at + 1
+    → number ≡ here_at → t2 ≡ t1 ++ text_of_lines (row_lines number line (kept_row found (get_or slots i d))) → later ≡ here_at + 1
     → t0 ++ text_of_lines (walked found first (lines_of source) (drop i slots)) ≡ end
     → t2 ++ text_of_lines (walked found later (lines_of behind) (drop (i + 1) slots)) ≡ end
-row_walked found source here behind line t0 t1 t2 end first until here_at number later slots i s within is own p some lines same one next so_far =
+row_walked found source here behind line t0 t1 t2 end first until here_at number later slots i d within own p some lines same one next so_far =
+    let s = get_or slots i d in
     let ss = drop (i + 1) slots in
-    let parts : drop i slots ≡ s ∷ ss = drop_more slots i s within ∙ ap (λ (x : Slot). x ∷ ss) (sym is) in
     let before : t0 ++ text_of_lines (walked found first (lines_of source) (s ∷ ss)) ≡ end =
-    ap (λ (xs : List Slot). t0 ++ text_of_lines (walked found first (lines_of source) xs)) (sym parts) ∙ so_far in
+    ap (λ (xs : List Slot). t0 ++ text_of_lines (walked found first (lines_of source) xs)) (sym (drop_more slots i d within)) ∙ so_far in
     ap (λ (n : ℕ). t2 ++ text_of_lines (walked found n (lines_of behind) ss)) (next ∙ ap (λ (n : ℕ). n + 1) (sym same))
     ∙ row_next found number line t1 t2 s ss (lines_of behind) (sym own ∙ sym (p.stops some) ∙ sym same) one
     ∙ ap (λ (n : ℕ). t1 ++ text_of_lines (walked found n (line ∷ lines_of behind) (s ∷ ss))) same
@@ -257,15 +257,15 @@ row_walked found source here behind line t0 t1 t2 end first until here_at number
     ∙ walked_on found source t0 t1 here end first until here_at s ss own p before
 
 -- where no line is left behind those without a slot
-pub none_walked : (found : ℕ → Option ℕ) (source here t0 t1 end : List ℕ) (first until here_at : ℕ) (slots : List Slot) (i : ℕ) (s : Slot)
-    → i < length slots → s ≡ get_or slots i s → until ≡ s.line
+pub none_walked : (found : ℕ → Option ℕ) (source here t0 t1 end : List ℕ) (first until here_at : ℕ) (slots : List Slot) (i : ℕ) (d : Slot)
+    → i < length slots → until ≡ (get_or slots i d).line
     → PushesLines source first until here_at t0 t1 here → length here ≡ 0
     → t0 ++ text_of_lines (walked found first (lines_of source) (drop i slots)) ≡ end → t1 ≡ end
-none_walked found source here t0 t1 end first until here_at slots i s within is own p none so_far =
+none_walked found source here t0 t1 end first until here_at slots i d within own p none so_far =
+    let s = get_or slots i d in
     let ss = drop (i + 1) slots in
-    let parts : drop i slots ≡ s ∷ ss = drop_more slots i s within ∙ ap (λ (x : Slot). x ∷ ss) (sym is) in
     let before : t0 ++ text_of_lines (walked found first (lines_of source) (s ∷ ss)) ≡ end =
-    ap (λ (xs : List Slot). t0 ++ text_of_lines (walked found first (lines_of source) xs)) (sym parts) ∙ so_far in
+    ap (λ (xs : List Slot). t0 ++ text_of_lines (walked found first (lines_of source) xs)) (sym (drop_more slots i d within)) ∙ so_far in
     sym (append-nil t1)
     ∙ sym (ap (λ (ls : List (List ℕ)). t1 ++ text_of_lines (walked found here_at ls (s ∷ ss))) (no_lines here none))
     ∙ walked_on found source t0 t1 here end first until here_at s ss own p before

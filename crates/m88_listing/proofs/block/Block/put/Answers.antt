@@ -1,0 +1,11 @@
+-- What stood there, and the first of the bytes.
+use Rattle.std.proofs.Common.{◌≤◌, arith, length}
+use Rattle.m88_listing.proofs.Blocks.{put_behind}
+use Rattle.m88_listing.proofs.block.Block.put.Goals as goal
+
+pub returns : goal.returns
+returns c =
+    let inside = c.self.inside in
+    let fits : inside.len ≤ length inside.bytes = omega arith in
+    put_behind inside.bytes c.args.bytes.now c.copy_from_slice.new.self _ c.args.self.now inside.len c.args.count fits c.self.view_is
+    c.copy_from_slice.ensures.after c.requires.some

@@ -1,0 +1,73 @@
+//! A block of bytes that are appended to a text together.
+ghost use Rattle.std.specs.Prelude.{◌≡◌, ◌+◌, ◌≤◌, ◌++◌, [], length, take, OnOk};
+
+use std::alloc::AllocError;
+use std::marker::Model;
+
+/// How many bytes a block has room for.
+const ROOM: usize = 1024;
+
+/// How many bytes there is room for once room was made.
+pub(crate) const MOST_PUT: usize = 128;
+
+/// The bytes that stand behind a text until they are appended to it.
+#[derive(Drop)]
+pub(crate) struct Block {
+    bytes: [u8; 1024],
+    len: usize,
+}
+
+impl Model for Block {
+    ghost use Rattle.std.specs.Prelude.{◌≤◌, ℕ, List, take};
+
+    ghost Value = { List ℕ };
+
+    ghost view = { λ b. take b.len b.bytes };
+
+    ghost invariant = { λ b. b.len ≤ 1024 };
+}
+
+impl Block {
+    /// A block without bytes.
+    pub fn new() -> Block
+        ensures { result ≡ [] }
+    {
+        Block {
+            bytes: [0; 1024],
+            len: 0,
+        }
+    }
+
+    /// Puts the first of some bytes behind those that stand in the block, so many of them. There is room for all.
+    pub fn put(&mut self, bytes: &[u8], count: usize)
+        requires room { length self.old + length bytes.now ≤ 1024 }
+        requires some { count ≤ length bytes.now }
+        ensures { self.new ≡ self.old ++ take count bytes.now }
+    {
+        self.bytes[self.len..self.len + bytes.len()].copy_from_slice(bytes);
+        self.len += count;
+    }
+
+    /// Appends the bytes of the block to the text before it, where the block is nearly full.
+    pub fn make_room(&mut self, text: &mut Vec<u8>) -> Result<(), AllocError>
+        ensures same { OnOk result
+            (text.new.items ++ self.new ≡ text.old.items ++ self.old) }
+        ensures room { OnOk result (length self.new + 128 ≤ 1024) }
+    {
+        if self.len + MOST_PUT > ROOM {
+            self.append_to(text)?;
+        }
+        Ok(())
+    }
+
+    /// Appends the bytes of the block to the text before it.
+    pub fn append_to(&mut self, text: &mut Vec<u8>) -> Result<(), AllocError>
+        ensures text { OnOk result (text.new.items ≡ text.old.items ++ self.old) }
+        ensures none { OnOk result (self.new ≡ []) }
+    {
+        let (bytes, _) = self.bytes.split_at(self.len);
+        text.extend_from_slice(bytes)?;
+        self.len = 0;
+        Ok(())
+    }
+}
