@@ -50,6 +50,11 @@ impl<'a> Refused<'a> {
             text,
         })
     }
+
+    /// The same refusal with the line of its input, where that was remembered alone.
+    pub fn showing(self, text: Option<&'a [u8]>) -> Refused<'a> {
+        Refused { text, ..self }
+    }
 }
 
 impl<'a> fmt::Display for Refused<'a> {

@@ -8,7 +8,7 @@ mod tests;
 
 use crate::finding::Finding;
 use m88_base::{MOST_INPUT, Status, StdSink, StdSource};
-use m88_edge::{Keeping, Refused};
+use m88_edge::Refused;
 use m88_listing::m88list;
 use std::env;
 use std::process::ExitCode;
@@ -35,19 +35,20 @@ fn main(rt: HostRuntime) -> ExitCode {
 /// The answer of the top call between standard input and standard output. Standard error tells a person where a source is
 /// refused, since the listing may go to a file.
 fn carry_out(rt: &HostRuntime, words: &[String]) -> Status {
-    let mut source = Keeping::new(rt.alloc(), StdSource::new(rt.reader()), true);
+    let mut source = StdSource::new(rt.reader());
     let mut sink = Finding::new(rt.alloc(), StdSink::new(rt.stdout()));
     let status = m88list(rt.alloc(), words, &mut source, &mut sink);
     if status == Status::Refused {
-        tell_refusal(rt, sink.line(), source.kept());
+        tell_refusal(rt, sink.refusal(), sink.source());
     }
     status
 }
 
 /// Tells where and why a source is refused, by the line of its listing that says so, and shows the line of the source.
-fn tell_refusal<'a>(rt: &HostRuntime, line: &'a [u8], source: Option<&'a [u8]>) {
-    let _ = match Refused::of("m88list", "", line, source) {
-        Some(refused) => eprintln!(rt; "{refused}"),
+fn tell_refusal<'a>(rt: &HostRuntime, refusal: Option<&'a [u8]>, source: Option<&'a [u8]>) {
+    let refused = Refused::of("m88list", "", refusal.unwrap_or(&[]), None);
+    let _ = match refused {
+        Some(refused) => eprintln!(rt; "{}", refused.showing(source)),
         None => eprintln!(rt; "m88list: the source is refused; the listing says where"),
     };
 }
