@@ -4,7 +4,7 @@ use m88_base::{Failed, Sink, split_at_byte};
 use memchr::memchr_iter;
 use std::alloc::Global;
 
-/// The end of the line with the mark, and the begin of the line that refuses; nowhere else in a listing they stand so.
+/// The end of the line with the mark, and how the line that refuses begins. They stand so nowhere else in a listing.
 const MARKED: &[u8] = b"^\nrefused ";
 
 /// How many bytes stand before the line of the source, and how many of them are for its number.
