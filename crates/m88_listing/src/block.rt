@@ -1,5 +1,6 @@
 //! A block of bytes that are appended to a text together.
 ghost use Rattle.std.specs.Prelude.{◌≡◌, ◌+◌, ◌≤◌, ◌++◌, [], length, take, OnOk};
+ghost use Rattle.m88_listing.specs.Inside.Pushed.{HasRoom};
 
 use std::alloc::AllocError;
 use std::marker::Model;
@@ -7,13 +8,13 @@ use std::marker::Model;
 /// How many bytes a block has room for.
 const ROOM: usize = 1024;
 
-/// How many bytes there is room for once room was made.
-pub(crate) const MOST_PUT: usize = 128;
+/// How many bytes there is room for once room was made, as many as a short line takes behind its columns and more.
+const MOST_PUT: usize = 128;
 
 /// The bytes that stand behind a text until they are appended to it.
 #[derive(Drop)]
 pub(crate) struct Block {
-    bytes: [u8; 1024],
+    bytes: [u8; ROOM],
     len: usize,
 }
 
@@ -33,7 +34,7 @@ impl Block {
         ensures { result ≡ [] }
     {
         Block {
-            bytes: [0; 1024],
+            bytes: [0; ROOM],
             len: 0,
         }
     }
@@ -52,7 +53,7 @@ impl Block {
     pub fn make_room(&mut self, text: &mut Vec<u8>) -> Result<(), AllocError>
         ensures same { OnOk result
             (text.new.items ++ self.new ≡ text.old.items ++ self.old) }
-        ensures room { OnOk result (length self.new + 128 ≤ 1024) }
+        ensures room { OnOk result (HasRoom self.new) }
     {
         if self.len + MOST_PUT > ROOM {
             self.append_to(text)?;

@@ -1,9 +1,9 @@
 //! The columns of lines that give no bytes, counted on from line to line.
-ghost use Rattle.std.specs.Prelude.{◌≡◌, ◌+◌, ◌<◌, ◌≤◌, ◌^◌, ◌++◌, [], decimal, length, IfNone, IfSome, MatchOption, OnOk};
+ghost use Rattle.std.specs.Prelude.{◌≡◌, ◌+◌, ◌<◌, ◌^◌, ◌++◌, [], decimal, length, IfNone, IfSome, MatchOption, OnOk};
 ghost use Rattle.m88_base.specs.Cut.{Lacks};
 ghost use Rattle.m88_base.specs.Lines.{line_end, line_feed};
 ghost use Rattle.m88_listing.specs.Columns.{at_right, bare_line, columns, no_address};
-ghost use Rattle.m88_listing.specs.Inside.Pushed.{IsFirstFeed, PushesFirst};
+ghost use Rattle.m88_listing.specs.Inside.Pushed.{HasRoom, IsFirstFeed, PushesFirst};
 
 use crate::block::Block;
 use itoa::write_digits;
@@ -85,7 +85,7 @@ impl Column {
     /// Puts the first line of what is left of a source behind its columns into a block that has room for it, and answers
     /// what is left then. None where that line is long, ends by CR LF, or stands near the end of the source.
     pub fn put_short<'a>(&self, block: &mut Block, rest: &'a [u8]) -> Option<&'a [u8]>
-        requires { length block.old + 128 ≤ 1024 }
+        requires { HasRoom block.old }
         ensures some { IfSome result (λ left.
             PushesFirst self.now rest.now block.old block.new left.now) }
         ensures none { IfNone result (block.new ≡ block.old) }

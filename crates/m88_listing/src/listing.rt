@@ -22,8 +22,8 @@ use m88_link::{LinkFault, LinkKind, Object, link, stand};
 use m88_parse::{ParseFault, ParseKind, Unit, parse};
 use std::alloc::Global;
 
-/// How many times the bytes of a source there is room for from the start, as much as most listings take.
-const ROOM: usize = 4;
+/// How many times the bytes of its source a text has room for from the start. Few listings take more.
+const GROWTH: usize = 4;
 
 /// The reply that refuses a source at a line and a column, both from 1, for a reason.
 fn refuse(
@@ -38,7 +38,7 @@ fn refuse(
         (record { line = line; column = column; reason = reason.now })
         → IfOk result (ListsAs source.now) }
 {
-    let mut text = Vec::with_capacity(alloc, ROOM * source.len())?;
+    let mut text = Vec::with_capacity(alloc, GROWTH * source.len())?;
     push_refusal(&mut text, source, line, column, reason)?;
     Ok(Reply {
         accepted: false,
@@ -113,7 +113,7 @@ fn listing(
     let slots = slots(alloc, standings.as_slice())?;
     let labels = labels(alloc, standings.as_slice())?;
     let numbers = numbers(alloc, standings.as_slice())?;
-    let mut text = Vec::with_capacity(alloc, ROOM * source.len())?;
+    let mut text = Vec::with_capacity(alloc, GROWTH * source.len())?;
     push_source(&mut text, source, slots.as_slice(), image)?;
     push_entries(&mut text, b"labels", labels.as_slice())?;
     push_entries(&mut text, b"numbers", numbers.as_slice())?;

@@ -6,6 +6,10 @@ use Rattle.m88_base.specs.Lines.{line_end, line_feed, lines_of}
 use Rattle.m88_listing.specs.Columns.{bare_line}
 use Rattle.m88_listing.specs.Refused.{bare_text}
 
+-- a block of 1,024 bytes has room for a short line of a source behind its columns
+abbrev pub HasRoom : List ℕ → Type 0
+HasRoom block = length block + 128 ≤ 1024
+
 -- the first LF of a text stands behind so many bytes
 pub record IsFirstFeed (text : List ℕ) (n : ℕ) : Type 0 where
   pub within : n < length text

@@ -1,9 +1,8 @@
 -- What is kept of a row while the image has its bytes, and the lines as they are written from the first on.
-use Rattle.std.specs.Prelude.{ℕ, ◌≡◌, ◌+◌, ◌<◌, ◌≤◌, ◌^◌, ◌==◌, if◌then◌else◌, List, [], ◌∷◌, ◌++◌, drop, flat_map, length, map, Option, IsSome, slice_index_or, unwrap_or}
+use Rattle.std.specs.Prelude.{ℕ, ◌≡◌, ◌+◌, ◌<◌, ◌≤◌, ◌^◌, ◌==◌, if◌then◌else◌, List, [], ◌∷◌, ◌++◌, flat_map, length, map, Option, IsSome, slice_index_or, unwrap_or}
 use Rattle.std.specs.List.{range_with_len}
 use Rattle.std.specs.Option.{option_map_or}
 use Rattle.m88_base.specs.Image.{most_bytes}
-use Rattle.m88_base.specs.Lines.{text_of_lines}
 use Rattle.m88_parse.specs.WellFormed.{IsFormedBody}
 use Rattle.m88_parse.specs.declared.unit.Statement.{Statement}
 use Rattle.m88_asm.specs.Counters.{Counters, Located, after, at_begin, length_of, offset_of}
