@@ -66,6 +66,9 @@ impl Block {
         ensures text { OnOk result (text.new.items ≡ text.old.items ++ self.old) }
         ensures none { OnOk result (self.new ≡ []) }
     {
+        if self.len == 0 {
+            return Ok(());
+        }
         let (bytes, _) = self.bytes.split_at(self.len);
         text.extend_from_slice(bytes)?;
         self.len = 0;
