@@ -1,4 +1,4 @@
-"""How each command of m88 is called, as the table of the program has it, in crates/m88_main/src/forms.rt."""
+"""How each command of m88 is called, as the table of the program has it, in crates/m88_cli/src/commands.rt."""
 import os
 import re
 from typing import NamedTuple
@@ -17,11 +17,11 @@ class Form(NamedTuple):
 
 def forms():
     """The form of each command, in the order of the table."""
-    with open(os.path.join(TOP, "crates", "m88_main", "src", "forms.rt"), encoding="ascii") as file:
+    with open(os.path.join(TOP, "crates", "m88_cli", "src", "commands.rt"), encoding="utf-8") as file:
         text = file.read()
     lists = {name: re.findall(r"Place::(\w+)", places)
              for name, places in re.findall(r"const (\w+): \[Place; \d+\] =\s*\[([^\]]*)\]", text)}
-    rows = re.findall(r'^    Form\("(\w+)", &(\w+|\[\]), Input::(\w+)\),$', text, re.M)
+    rows = re.findall(r'^    Form\("(\w+)", &(\w+|\[\]), Reads::(\w+)\),$', text, re.M)
     if not rows or len(rows) != int(re.search(r"const FORMS: \[Form; (\d+)\]", text).group(1)):
         raise ValueError("not every row of the table is understood")
     return {name: Form([SHOWN.get(place, place.upper()) for place in ([] if places == "[]" else lists[places])], given) for name, places, given in rows}

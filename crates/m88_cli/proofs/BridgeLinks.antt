@@ -6,7 +6,7 @@ use Rattle.m88_parse.proofs.Laws.{one_source_verdict}
 use Rattle.m88_cli.specs.Answer.{IsAnswerToAccepted}
 use Rattle.m88_cli.specs.Bridge.{AssembledLinksAlike, FitsInput}
 use Rattle.m88_cli.specs.Command.{asm}
-use Rattle.m88_cli.proofs.Linked.{readable}
+use Rattle.m88_cli.proofs.OneText.Linked.{readable}
 
 -- the objects that `asm` writes link as the source does
 alike : (source objects : List ℕ) → FitsInput source → IsAnswerToAccepted asm source objects → LinksAlike source objects

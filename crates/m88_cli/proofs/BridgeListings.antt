@@ -7,8 +7,8 @@ use Rattle.m88_srec.specs.Written.{srec_text}
 use Rattle.m88_cli.specs.Answer.{IsAnswerToAccepted}
 use Rattle.m88_cli.specs.Bridge.{ListedBuildsAlike}
 use Rattle.m88_cli.specs.Command.{build}
-use Rattle.m88_cli.proofs.Linked.{recorded}
-use Rattle.m88_cli.proofs.Listed.{one_written}
+use Rattle.m88_cli.proofs.OneText.Linked.{recorded}
+use Rattle.m88_cli.proofs.OneText.Listed.{one_written}
 
 -- a listing of an image is built into the records of the image
 built_again : (listing : List ℕ) (image : ProgramImage) → IsImage image → IsImageListing image listing

@@ -12,7 +12,7 @@ use Rattle.m88_cli.specs.Command.{build}
 use Rattle.m88_cli.specs.Answer.Runs.{IsLoadedProgram, IsReport}
 use Rattle.m88_asm.specs.Sources.{IsSourceProgram}
 use Rattle.m88_cli.specs.Settings.{Settings}
-use Rattle.m88_cli.proofs.Linked.{readable}
+use Rattle.m88_cli.proofs.OneText.Linked.{readable}
 use Rattle.m88_cli.proofs.Programs.{one_loaded_program}
 
 -- the image that records hold, and its program in each mode, which is the source's

@@ -1,4 +1,8 @@
--- A command writes one text for an input.
+-- A command writes one text for an input. What a command writes answers its input by a module of its own.
+pub mod Linked
+pub mod Listed
+pub mod InputSessions
+pub mod Paged
 use Rattle.std.proofs.Common.{◌≡◌, ℕ, List, ap, codes, subst, sym, ◌∙◌}
 use Rattle.m88_asm.proofs.Laws.{holds_of_same, one_image_of, one_list, one_source_image, one_source_program, same_programs}
 use Rattle.m88_asm.specs.Objects.{objects_of}
@@ -26,9 +30,9 @@ use Rattle.m88_cli.specs.Answer.Runs.{IsLoadedProgram, IsReport, workload_settin
 use Rattle.m88_cli.specs.Settings.{Settings}
 use Rattle.m88_cli.specs.Answer.Sharing.{group_of, told_of_shared}
 use Rattle.m88_cli.specs.Answer.Workload.{summary_of, workload_source}
-use Rattle.m88_cli.proofs.InputSessions.{one_session_text}
-use Rattle.m88_cli.proofs.Listed.{one_written}
-use Rattle.m88_cli.proofs.Paged.{one_paged}
+use Rattle.m88_cli.proofs.OneText.InputSessions.{one_session_text}
+use Rattle.m88_cli.proofs.OneText.Listed.{one_written}
+use Rattle.m88_cli.proofs.OneText.Paged.{one_paged}
 use Rattle.m88_cli.proofs.Programs.{one_loaded_program}
 use Rattle.m88_cli.proofs.TracedInputs.{one_trace}
 

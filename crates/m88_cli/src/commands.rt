@@ -1,28 +1,31 @@
-//! The commands of the program: what its words ask for, and what each makes of its whole input.
-ghost use Rattle.std.specs.Prelude.{ℕ, ◌≡◌, List, false};
-ghost use Rattle.m88_cli.specs.Command.{IsFit, command_of, kind_of, shows_boards};
+//! The commands of the program: how each is called, what words ask for it, and what it makes of its whole input.
+ghost use Rattle.std.specs.Prelude.{ℕ, [], ◌≡◌, IfSome, List, MatchOption, Some, false};
+ghost use Rattle.m88_cli.specs.Command.{Command as Choice, IsFit, Spells, command_of, kind_of, shows_boards};
 ghost use Rattle.m88_cli.specs.Inside.Inputs.{IsKeptAs, IsMadeOf};
 ghost use Rattle.m88_cli.specs.Inside.Reply.{AnswersShown};
+ghost use Rattle.m88_cli.specs.Words.{texts};
 
+use crate::forms::{Form, Place, Reads};
+use crate::grammar::{first_word, no_more};
 use crate::input::Input;
 use crate::limits::SESSION_LIMIT;
 use crate::reply::Reply;
 use crate::settings::Settings;
 use assembly::{assemble_source, build_source};
-use emulation::emulate_source;
+use emulation::{emulate_source, emulation_command};
 use loading::list_records;
 use m88_base::{Absent, NoMemory};
 use m88_board::Watch;
 use m88_event::Schedule;
 use m88_tasks::ShareSchedule;
-use monitoring::run_monitor;
+use monitoring::{run_monitor, session_command};
 use objects::link_objects;
-use paging::page_source;
-use running::{run_records, run_source};
-use sharing::share_board;
-use soaking::run_workload;
+use paging::{page_source, paged_command};
+use running::{exec_command, run_command, run_records, run_source};
+use sharing::{share_board, share_command};
+use soaking::{run_workload, workload_command};
 use std::alloc::Global;
-use traces::{check_source, trace_source};
+use traces::{check_source, trace_command, trace_source};
 
 // What commands make of their inputs.
 mod assembly;
@@ -113,6 +116,71 @@ pub enum Command<'a> {
     Check,
 }
 
+const RUN: [Place; 4] = [Place::Limit, Place::Absent, Place::Schedule, Place::Mode];
+
+const SHARED: [Place; 3] = [Place::Limit, Place::Absent, Place::Turns];
+
+/// A run without a mode.
+const PLAIN: [Place; 3] = [Place::Limit, Place::Absent, Place::Schedule];
+
+const PAGED: [Place; 4] = [Place::Frames, Place::Limit, Place::Absent, Place::Schedule];
+
+const SESSION: [Place; 3] = [Place::Absent, Place::Schedule, Place::Mode];
+
+const WORKLOAD: [Place; 2] = [Place::Number, Place::Count];
+
+/// How every command is called, in the order in which they are told.
+pub const FORMS: [Form; 13] = [
+    Form("run", &RUN, Reads::Source),
+    Form("exec", &RUN, Reads::Records),
+    Form("dis", &[], Reads::Records),
+    Form("asm", &[], Reads::Source),
+    Form("link", &[], Reads::Objects),
+    Form("build", &[], Reads::Source),
+    Form("mon", &SESSION, Reads::Script),
+    Form("share", &SHARED, Reads::Sources),
+    Form("emu", &PLAIN, Reads::Source),
+    Form("page", &PAGED, Reads::Source),
+    Form("trace", &PLAIN, Reads::Source),
+    Form("check", &[], Reads::Trace),
+    Form("soak", &WORKLOAD, Reads::Nothing),
+];
+
+/// The command that the words spell. None for words that spell none.
+pub fn spelled<'a>(words: &'a [String]) -> Option<Command<'a>>
+    ensures found { IfSome result (λ c. Spells (texts words.now) (command_of c)) }
+    ensures only { (choice : Choice) → Spells (texts words.now) choice
+        → MatchOption result ⊥ (λ c. command_of c ≡ choice) }
+    ensures fit { IfSome result IsFit }
+{
+    let (name, rest) = first_word(words)?;
+    match name {
+        "run" => run_command(rest),
+        "exec" => exec_command(rest),
+        "asm" => bare(Command::Asm, rest),
+        "link" => bare(Command::Link, rest),
+        "build" => bare(Command::Build, rest),
+        "dis" => bare(Command::Dis, rest),
+        "mon" => session_command(rest),
+        "soak" => workload_command(rest),
+        "share" => share_command(rest),
+        "emu" => emulation_command(rest),
+        "page" => paged_command(rest),
+        "trace" => trace_command(rest),
+        "check" => bare(Command::Check, rest),
+        _ => None,
+    }
+}
+
+/// A command that its name spells alone.
+fn bare<'a>(command: Command<'a>, rest: &[String]) -> Option<Command<'a>>
+    ensures found { IfSome result (λ c. (c ≡ command.entry) × (texts rest.now ≡ [])) }
+    ensures only { texts rest.now ≡ [] → result ≡ Some command.entry }
+{
+    no_more(rest)?;
+    Some(command)
+}
+
 /// The reply of a command to its whole input. Where the command shows boards, its board is shown to the watch after
 /// each event.
 #[tactic(auto, using(crate::proofs::Refusing::shows_none))]
@@ -135,12 +203,7 @@ pub fn reply_to<W: Watch>(
             schedule,
             mxm,
         } => {
-            let settings = Settings {
-                limit,
-                absent,
-                schedule,
-                mxm,
-            };
+            let settings = Settings::new(limit, absent, schedule, mxm);
             run_source(alloc, &settings, input.text(), watch)
         }
         Command::Exec {
@@ -149,12 +212,7 @@ pub fn reply_to<W: Watch>(
             schedule,
             mxm,
         } => {
-            let settings = Settings {
-                limit,
-                absent,
-                schedule,
-                mxm,
-            };
+            let settings = Settings::new(limit, absent, schedule, mxm);
             run_records(alloc, &settings, input.records(), watch)
         }
         Command::Asm => assemble_source(alloc, input.text()),
@@ -166,12 +224,7 @@ pub fn reply_to<W: Watch>(
             schedule,
             mxm,
         } => {
-            let settings = Settings {
-                limit: SESSION_LIMIT,
-                absent,
-                schedule,
-                mxm,
-            };
+            let settings = Settings::new(SESSION_LIMIT, absent, schedule, mxm);
             run_monitor(alloc, &settings, input.text(), watch)
         }
         Command::Soak { number, count } => run_workload(alloc, number, count, watch),
@@ -185,12 +238,7 @@ pub fn reply_to<W: Watch>(
             absent,
             schedule,
         } => {
-            let settings = Settings {
-                limit,
-                absent,
-                schedule,
-                mxm: false,
-            };
+            let settings = Settings::new(limit, absent, schedule, false);
             emulate_source(alloc, &settings, input.text())
         }
         Command::Page {
@@ -199,12 +247,7 @@ pub fn reply_to<W: Watch>(
             absent,
             schedule,
         } => {
-            let settings = Settings {
-                limit,
-                absent,
-                schedule,
-                mxm: false,
-            };
+            let settings = Settings::new(limit, absent, schedule, false);
             page_source(alloc, frames, &settings, input.text())
         }
         Command::Trace {
@@ -212,12 +255,7 @@ pub fn reply_to<W: Watch>(
             absent,
             schedule,
         } => {
-            let settings = Settings {
-                limit,
-                absent,
-                schedule,
-                mxm: false,
-            };
+            let settings = Settings::new(limit, absent, schedule, false);
             trace_source(alloc, &settings, input.text())
         }
         Command::Check => check_source(alloc, input.text()),

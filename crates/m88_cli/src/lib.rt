@@ -2,8 +2,9 @@
 //! of it between a source of bytes, a sink and a watch.
 #![tactic(auto)]
 
-// The commands, and what each makes of its input.
+// The commands: how each is called, and what it makes of its input.
 mod commands;
+mod forms;
 
 // The words of a command.
 mod grammar;
@@ -22,8 +23,8 @@ mod script;
 mod script_line;
 mod script_lines;
 
-pub use commands::Command;
-pub use grammar::command;
+pub use commands::{Command, FORMS, spelled as command};
+pub use forms::{Form, Place, Reads};
 pub use limits::{MOST_FRAMES, MOST_INPUT, MOST_LIMIT, MOST_STATEMENTS};
 pub use m88_base::Status;
 pub use program::m88;

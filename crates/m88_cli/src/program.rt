@@ -20,8 +20,7 @@ ghost use Rattle.m88_cli.specs.Status.{ShowsNothing};
 ghost use Rattle.m88_cli.specs.Watching.{FrontOfAccepted, Shown, ShownIfAccepted};
 ghost use Rattle.m88_cli.specs.Words.{texts};
 
-use crate::commands::{Command, reply_to};
-use crate::grammar::command;
+use crate::commands::{Command, reply_to, spelled};
 use crate::input::input_of;
 use crate::reply::Reply;
 use m88_base::{Sink, Source, Status};
@@ -133,7 +132,7 @@ pub fn m88<S: Source, K: Sink, W: Watch>(
     // The source of each workload is accepted, so `soak` always has a run to tell of.
     ensures workloads { WorkloadsAreAccepted }
 {
-    let Some(command) = command(words) else {
+    let Some(command) = spelled(words) else {
         return Status::Usage;
     };
     match reply_from(alloc, command, source, watch) {

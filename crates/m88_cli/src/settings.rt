@@ -1,4 +1,5 @@
 //! What a run or a session is asked for besides its program.
+ghost use Rattle.std.specs.Prelude.{◌≡◌};
 
 use m88_base::Absent;
 use m88_event::Schedule;
@@ -14,4 +15,23 @@ pub struct Settings<'a> {
     pub schedule: Schedule<'a>,
     /// Whether MXM is set at the start.
     pub mxm: bool,
+}
+
+impl<'a> Settings<'a> {
+    /// The settings of a limit, absent pages, a schedule and a mode.
+    pub fn new(limit: u32, absent: Absent, schedule: Schedule<'a>, mxm: bool) -> Settings<'a>
+        ensures { result ≡ record {
+          limit = limit;
+          absent = absent;
+          schedule = schedule.entry;
+          mxm = mxm;
+        } }
+    {
+        Settings {
+            limit,
+            absent,
+            schedule,
+            mxm,
+        }
+    }
 }

@@ -1,159 +1,110 @@
-//! How each command is called: its name, the words after it, and what it reads. What a person is told goes by it; what is
-//! taken is for `m88_cli::command` to say.
+//! How a person is told how a command is called. The table of the commands is that of `m88_cli`; what is taken is for
+//! `m88_cli::command` to say.
 
+use m88_cli::{FORMS, Form, MOST_FRAMES, MOST_LIMIT, MOST_STATEMENTS, Place, Reads};
 use std::fmt;
 
-/// A word after the name of a command.
+/// The form of the command of a name.
+pub fn form_of(name: &str) -> Option<Form> {
+    FORMS.iter().find(|form| form.name() == name).copied()
+}
+
+/// Whether a command reads anything.
+pub fn reads_input(form: Form) -> bool {
+    form.reads() != Reads::Nothing
+}
+
+/// Whether it reads lines that a person wrote, who wants to see the one at fault.
+pub fn reads_lines(form: Form) -> bool {
+    match form.reads() {
+        Reads::Source | Reads::Sources | Reads::Script | Reads::Trace => true,
+        Reads::Nothing | Reads::Records | Reads::Objects => false,
+    }
+}
+
+/// The least number of words after its name.
+pub fn fewest(form: Form) -> usize {
+    match form.places().split_last() {
+        Some((Place::Mode, others)) => others.len(),
+        _ => form.places().len(),
+    }
+}
+
+/// How a word after a name is called.
+pub fn place_name(place: Place) -> &'static str {
+    match place {
+        Place::Frames => "FRAMES",
+        Place::Limit => "LIMIT",
+        Place::Absent => "ABSENT",
+        Place::Schedule | Place::Turns => "SCHEDULE",
+        Place::Mode => "the word after SCHEDULE",
+        Place::Number => "NUMBER",
+        Place::Count => "COUNT",
+    }
+}
+
+/// A word that is understood there.
+pub fn sample_of(place: Place) -> &'static str {
+    match place {
+        Place::Limit | Place::Number => "0",
+        Place::Absent => "none",
+        Place::Schedule | Place::Turns => "-",
+        Place::Mode => "mxm",
+        Place::Frames | Place::Count => "1",
+    }
+}
+
+/// What is understood there.
 #[derive(Clone, Copy)]
-pub enum Place {
-    Frames,
-    Limit,
-    Absent,
-    Schedule,
-    /// A schedule that may hand the board on.
-    Turns,
-    /// It may be left out, and stands last.
-    Mode,
-    Number,
-    Count,
-}
+pub struct Meaning(pub Place);
 
-impl Place {
-    pub fn name(self) -> &'static str {
-        match self {
-            Place::Frames => "FRAMES",
-            Place::Limit => "LIMIT",
-            Place::Absent => "ABSENT",
-            Place::Schedule | Place::Turns => "SCHEDULE",
-            Place::Mode => "the word after SCHEDULE",
-            Place::Number => "NUMBER",
-            Place::Count => "COUNT",
-        }
-    }
-
-    /// A word that is understood there.
-    pub fn sample(self) -> &'static str {
-        match self {
-            Place::Limit | Place::Number => "0",
-            Place::Absent => "none",
-            Place::Schedule | Place::Turns => "-",
-            Place::Mode => "mxm",
-            Place::Frames | Place::Count => "1",
-        }
-    }
-}
-
-/// What a command reads on standard input.
-#[derive(Clone, Copy, PartialEq, Eq)]
-pub enum Input {
-    Nothing,
-    Source,
-    Sources,
-    Script,
-    Trace,
-    Records,
-    Objects,
-}
-
-impl Input {
-    /// How it is called in the form of a command.
-    fn name(self) -> &'static str {
-        match self {
-            Input::Nothing => "",
-            Input::Source => " < SOURCE",
-            Input::Sources => " < SOURCES",
-            Input::Script => " < SCRIPT-AND-SOURCE",
-            Input::Trace => " < SOURCE-AND-TRACE",
-            Input::Records => " < RECORDS",
-            Input::Objects => " < OBJECTS",
-        }
-    }
-
-    /// Whether a person wrote its lines, who wants to see the one at fault.
-    fn has_lines(self) -> bool {
-        match self {
-            Input::Source | Input::Sources | Input::Script | Input::Trace => true,
-            Input::Nothing | Input::Records | Input::Objects => false,
-        }
-    }
-}
-
-/// How a command is called: its name, the words after it, and what it reads.
-#[derive(Clone, Copy)]
-pub struct Form(&'static str, &'static [Place], Input);
-
-const RUN: [Place; 4] = [Place::Limit, Place::Absent, Place::Schedule, Place::Mode];
-
-const SHARED: [Place; 3] = [Place::Limit, Place::Absent, Place::Turns];
-
-/// A run without a mode.
-const PLAIN: [Place; 3] = [Place::Limit, Place::Absent, Place::Schedule];
-
-const PAGED: [Place; 4] = [Place::Frames, Place::Limit, Place::Absent, Place::Schedule];
-
-const SESSION: [Place; 3] = [Place::Absent, Place::Schedule, Place::Mode];
-
-const WORKLOAD: [Place; 2] = [Place::Number, Place::Count];
-
-/// Every command, in the order in which they are told.
-pub const FORMS: [Form; 13] = [
-    Form("run", &RUN, Input::Source),
-    Form("exec", &RUN, Input::Records),
-    Form("dis", &[], Input::Records),
-    Form("asm", &[], Input::Source),
-    Form("link", &[], Input::Objects),
-    Form("build", &[], Input::Source),
-    Form("mon", &SESSION, Input::Script),
-    Form("share", &SHARED, Input::Sources),
-    Form("emu", &PLAIN, Input::Source),
-    Form("page", &PAGED, Input::Source),
-    Form("trace", &PLAIN, Input::Source),
-    Form("check", &[], Input::Trace),
-    Form("soak", &WORKLOAD, Input::Nothing),
-];
-
-impl Form {
-    /// The form of the command of a name.
-    pub fn named(name: &str) -> Option<Form> {
-        FORMS.iter().find(|form| form.name() == name).copied()
-    }
-
-    pub fn name(self) -> &'static str {
-        self.0
-    }
-
-    /// The words after the name; the last may be one that may be left out.
-    pub fn places(self) -> &'static [Place] {
-        self.1
-    }
-
-    pub fn reads_input(self) -> bool {
-        self.2 != Input::Nothing
-    }
-
-    /// Whether it reads lines that a person wrote, who wants to see the one at fault.
-    pub fn reads_lines(self) -> bool {
-        self.2.has_lines()
-    }
-
-    /// The least number of words after the name.
-    pub fn fewest(self) -> usize {
-        match self.1.split_last() {
-            Some((Place::Mode, others)) => others.len(),
-            _ => self.1.len(),
-        }
-    }
-}
-
-impl fmt::Display for Form {
+impl fmt::Display for Meaning {
     fn fmt<W: fmt::Write>(&self, f: &mut fmt::Formatter<W>) -> fmt::Result {
-        write!(f, "m88 {}", self.0)?;
-        for place in self.1 {
+        match self.0 {
+            Place::Frames => write!(f, "FRAMES is a decimal number from 1 to {MOST_FRAMES}"),
+            Place::Limit => write!(f, "LIMIT is a decimal number from 0 to {MOST_LIMIT}"),
+            Place::Absent => write!(
+                f,
+                "ABSENT is none, all, or 1 to 64 page numbers up to 1048575 (0xFFFFF), joined by commas"
+            ),
+            Place::Schedule => write!(f, "SCHEDULE is - or 1 to 65536 letters i, r and e"),
+            Place::Turns => write!(
+                f,
+                "SCHEDULE of share is - or 1 to 65536 letters i, r, e and t"
+            ),
+            Place::Mode => write!(f, "mxm rounds misaligned addresses down"),
+            Place::Number => write!(f, "NUMBER is a decimal number from 0 to 4294967295"),
+            Place::Count => write!(f, "COUNT is a decimal number from 1 to {MOST_STATEMENTS}"),
+        }
+    }
+}
+
+/// How a command is called, in a line.
+#[derive(Clone, Copy)]
+pub struct Call(pub Form);
+
+impl fmt::Display for Call {
+    fn fmt<W: fmt::Write>(&self, f: &mut fmt::Formatter<W>) -> fmt::Result {
+        write!(f, "m88 {}", self.0.name())?;
+        for place in self.0.places() {
             match place {
                 Place::Mode => f.write_str(" [mxm]")?,
-                _ => write!(f, " {}", place.name())?,
+                _ => write!(f, " {}", place_name(*place))?,
             }
         }
-        f.write_str(self.2.name())
+        f.write_str(input_name(self.0.reads()))
+    }
+}
+
+/// How what it reads is called there.
+fn input_name(reads: Reads) -> &'static str {
+    match reads {
+        Reads::Nothing => "",
+        Reads::Source => " < SOURCE",
+        Reads::Sources => " < SOURCES",
+        Reads::Script => " < SCRIPT-AND-SOURCE",
+        Reads::Trace => " < SOURCE-AND-TRACE",
+        Reads::Records => " < RECORDS",
+        Reads::Objects => " < OBJECTS",
     }
 }

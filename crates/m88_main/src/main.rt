@@ -9,7 +9,7 @@ mod tests;
 mod usage;
 
 use crate::advice::{NO_WORDS, advice_on};
-use crate::forms::Form;
+use crate::forms::{form_of, reads_lines};
 use crate::usage::{NoFile, Usage};
 use m88_base::{StdSink, StdSource};
 use m88_board::Unwatched;
@@ -47,8 +47,8 @@ fn carry_out(rt: &HostRuntime, words: &[String]) -> Status {
         Some(name) => name.as_str(),
         None => "",
     };
-    let reads_lines = Form::named(name).is_some_and(|form| form.reads_lines());
-    let mut source = Keeping::new(rt.alloc(), StdSource::new(rt.reader()), reads_lines);
+    let keeps = form_of(name).is_some_and(|form| reads_lines(form));
+    let mut source = Keeping::new(rt.alloc(), StdSource::new(rt.reader()), keeps);
     let mut sink = Showing::new(rt.alloc(), StdSink::new(rt.stdout()), FRONT);
     let mut watch = Unwatched::new();
     let status = m88(rt.alloc(), words, &mut source, &mut sink, &mut watch);

@@ -1,34 +1,13 @@
 //! What a person is told where the words are no command: which of them was not understood, and what is wanted.
 
-use crate::forms::{FORMS, Form, Place};
-use m88_cli::{MOST_FRAMES, MOST_LIMIT, MOST_STATEMENTS, command};
+use crate::forms::{Call, Meaning, fewest, form_of, place_name, reads_input, sample_of};
+use m88_cli::{FORMS, Form, Place, command};
 use m88_edge::put_shown;
 use std::alloc::{AllocError, Global};
 use std::fmt;
 
 /// The version of this program, which manual page and changelog tell too.
 const VERSION: &str = "1.0.0";
-
-impl fmt::Display for Place {
-    fn fmt<W: fmt::Write>(&self, f: &mut fmt::Formatter<W>) -> fmt::Result {
-        match self {
-            Place::Frames => write!(f, "FRAMES is a decimal number from 1 to {MOST_FRAMES}"),
-            Place::Limit => write!(f, "LIMIT is a decimal number from 0 to {MOST_LIMIT}"),
-            Place::Absent => write!(
-                f,
-                "ABSENT is none, all, or 1 to 64 page numbers up to 1048575 (0xFFFFF), joined by commas"
-            ),
-            Place::Schedule => write!(f, "SCHEDULE is - or 1 to 65536 letters i, r and e"),
-            Place::Turns => write!(
-                f,
-                "SCHEDULE of share is - or 1 to 65536 letters i, r, e and t"
-            ),
-            Place::Mode => write!(f, "mxm rounds misaligned addresses down"),
-            Place::Number => write!(f, "NUMBER is a decimal number from 0 to 4294967295"),
-            Place::Count => write!(f, "COUNT is a decimal number from 1 to {MOST_STATEMENTS}"),
-        }
-    }
-}
 
 /// What is wrong with words that are no command.
 #[derive(Drop)]
@@ -51,10 +30,10 @@ impl<'a> Usage<'a> {
         if name.as_str().starts_with("-") || name.as_str() == "help" {
             return Usage::All;
         }
-        let Some(form) = Form::named(name.as_str()) else {
+        let Some(form) = form_of(name.as_str()) else {
             return Usage::Name(name.as_str());
         };
-        if others.len() < form.fewest() || others.len() > form.places().len() {
+        if others.len() < fewest(form) || others.len() > form.places().len() {
             return Usage::Count(form, others.len());
         }
         for (at, (place, word)) in form.places().iter().zip(others).enumerate() {
@@ -70,8 +49,8 @@ impl<'a> Usage<'a> {
         match self {
             Usage::All => false,
             Usage::Name(_) => true,
-            Usage::Count(form, _) => form.reads_input() && word != form.name(),
-            Usage::Word(form, _, wrong) => form.reads_input() && word == *wrong,
+            Usage::Count(form, _) => reads_input(*form) && word != form.name(),
+            Usage::Word(form, _, wrong) => reads_input(*form) && word == *wrong,
         }
     }
 }
@@ -93,7 +72,7 @@ fn is_understood(alloc: Global, form: Form, at: usize, word: &str) -> Result<boo
     let mut words: Vec<String> = Vec::new(alloc);
     words.push(String::from_str(alloc, form.name())?)?;
     for (k, place) in form.places().iter().enumerate() {
-        let text = if k == at { word } else { place.sample() };
+        let text = if k == at { word } else { sample_of(*place) };
         words.push(String::from_str(alloc, text)?)?;
     }
     Ok(command(words.as_slice()).is_some())
@@ -110,16 +89,20 @@ impl<'a> fmt::Display for Usage<'a> {
                 put_all(f)
             }
             Usage::Count(form, count) => {
-                write!(f, "m88 {}: it takes {}", form.name(), form.fewest())?;
-                if form.fewest() < form.places().len() {
+                write!(f, "m88 {}: it takes {}", form.name(), fewest(*form))?;
+                if fewest(*form) < form.places().len() {
                     write!(f, " or {}", form.places().len())?;
                 }
-                write!(f, " words after its name, not {count}\nusage: {form}")
+                write!(
+                    f,
+                    " words after its name, not {count}\nusage: {}",
+                    Call(*form)
+                )
             }
             Usage::Word(form, place, word) => {
-                write!(f, "m88 {}: {} can't be ", form.name(), place.name())?;
+                write!(f, "m88 {}: {} can't be ", form.name(), place_name(*place))?;
                 put_word(f, word)?;
-                write!(f, "\n{place}\nusage: {form}")
+                write!(f, "\n{}\nusage: {}", Meaning(*place), Call(*form))
             }
         }
     }
@@ -129,7 +112,7 @@ impl<'a> fmt::Display for Usage<'a> {
 fn put_all<W: fmt::Write>(f: &mut fmt::Formatter<W>) -> fmt::Result {
     write!(f, "m88 {VERSION}\nusage:")?;
     for form in &FORMS {
-        write!(f, "\n  {form}")?;
+        write!(f, "\n  {}", Call(*form))?;
     }
     for place in [
         Place::Frames,
@@ -141,7 +124,7 @@ fn put_all<W: fmt::Write>(f: &mut fmt::Formatter<W>) -> fmt::Result {
         Place::Number,
         Place::Count,
     ] {
-        write!(f, "\n{place}")?;
+        write!(f, "\n{}", Meaning(place))?;
     }
     Ok(())
 }

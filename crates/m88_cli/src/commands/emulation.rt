@@ -1,19 +1,35 @@
-//! What `emu` makes of a source: a run with a monitor that emulates, its report, and what was emulated.
-ghost use Rattle.std.specs.Prelude.{◌≡◌, ◌++◌, ◌≤◌, IfOk, OnOk, length};
+//! `emu`: a run of a source with a monitor that emulates, its report, and what was emulated.
+ghost use Rattle.std.specs.Prelude.{◌≡◌, ◌++◌, ◌≤◌, ◌∷◌, IfOk, OnOk, codes, length};
 ghost use Rattle.std.specs.List.{enumerate_from, flat_map};
-ghost use Rattle.m88_cli.specs.Command.{AreBounded, emu, settings_in};
+ghost use Rattle.m88_cli.specs.Command.{AreBounded, IsFit, Spells, command_of, emu, settings_in};
 ghost use Rattle.m88_cli.specs.Answer.Emulation.{emulation_line, told_of_emulated};
+ghost use Rattle.m88_cli.specs.Inside.Reading.{ReadsFit};
 ghost use Rattle.m88_cli.specs.Inside.Reply.{Replies};
 ghost use Rattle.m88_cli.specs.Limits.{most_input};
+ghost use Rattle.m88_cli.specs.Words.{texts};
 
+use crate::commands::Command;
 use crate::commands::assembly::image_of_source;
 use crate::commands::numbered::push_numbered_event;
+use crate::grammar::plain_settings;
 use crate::reply::{Reply, refuse};
 use crate::settings::Settings;
 use m88_base::{NoMemory, push_decimal, push_hex8};
 use m88_emul::{EmulOutcome, Emulation};
 use m88_report::{push_count, report};
 use std::alloc::{AllocError, Global};
+
+/// The run with emulation that the words after `emu` ask for.
+pub fn emulation_command<'a>(words: &'a [String]) -> Option<Command<'a>>
+    ensures { ReadsFit (Spells (codes "emu" ∷ texts words.now)) command_of IsFit result }
+{
+    let settings = plain_settings(words)?;
+    Some(Command::Emu {
+        limit: settings.limit,
+        absent: settings.absent,
+        schedule: settings.schedule,
+    })
+}
 
 /// The reply of `emu` to a source.
 pub fn emulate_source(alloc: Global, settings: &Settings, source: &[u8]) -> Result<Reply, NoMemory>

@@ -1,14 +1,19 @@
-//! What `mon` makes of its input: a session with the monitor by a script, over the source behind it.
-ghost use Rattle.std.specs.Prelude.{ℕ, ◌≡◌, ◌≤◌, IfOk, List, MatchResult, length};
-ghost use Rattle.m88_cli.specs.Command.{AreBounded, mon, settings_in};
+//! `mon`: a session with the monitor by a script, over the source behind it.
+ghost use Rattle.std.specs.Prelude.{ℕ, ◌≡◌, ◌≤◌, ◌∷◌, IfOk, List, MatchResult, codes, length};
+ghost use Rattle.m88_cli.specs.Command.{AreBounded, IsFit, Spells, command_of, mon, settings_in};
 ghost use Rattle.m88_cli.specs.Limits.{most_input};
 ghost use Rattle.m88_asm.specs.Inside.Held.{HoldsUnit};
 ghost use Rattle.m88_cli.specs.Monitoring.{IsRefusedMonitor};
+ghost use Rattle.m88_cli.specs.Inside.Reading.{ReadsFit};
 ghost use Rattle.m88_cli.specs.Inside.Reply.{AnswersShown};
 ghost use Rattle.m88_cli.specs.Script.{IsScript, script_refusal};
+ghost use Rattle.m88_cli.specs.Words.{texts};
 
+use crate::commands::Command;
 use crate::commands::assembly::image_of_source;
 use crate::commands::monitor::carry_out;
+use crate::grammar::opening;
+use crate::limits::SESSION_LIMIT;
 use crate::reply::{Reply, refuse};
 use crate::script::{MonitorCommand, ScriptFault, read_script};
 use crate::script_lines::MOST_COMMANDS;
@@ -17,6 +22,18 @@ use arrayvec::ArrayVec;
 use m88_base::{Image, NoMemory, Refusal};
 use m88_board::Watch;
 use std::alloc::Global;
+
+/// The session that the words after `mon` ask for.
+pub fn session_command<'a>(words: &'a [String]) -> Option<Command<'a>>
+    ensures { ReadsFit (Spells (codes "mon" ∷ texts words.now)) command_of IsFit result }
+{
+    let settings = opening(SESSION_LIMIT, words)?;
+    Some(Command::Mon {
+        absent: settings.absent,
+        schedule: settings.schedule,
+        mxm: settings.mxm,
+    })
+}
 
 /// The commands of an input's script and the image of the source behind it, or the refusal of the input.
 fn script_and_image(

@@ -1,19 +1,44 @@
-//! What `page` makes of a source: a run whose memory stands in frames before a store of pages, its report, and how
-//! often pages came in and went out.
-ghost use Rattle.std.specs.Prelude.{◌≡◌, ◌≤◌, IfOk, length};
+//! `page`: a run of a source whose memory stands in frames before a store of pages, its report, and how often pages
+//! came in and went out.
+ghost use Rattle.std.specs.Prelude.{◌≡◌, ◌≤◌, ◌∷◌, IfOk, codes, length};
 ghost use Rattle.m88_pager.specs.Paged.{most_frames};
-ghost use Rattle.m88_cli.specs.Command.{AreBounded, page, settings_in};
+ghost use Rattle.m88_cli.specs.Command.{AreBounded, IsFit, Spells, command_of, page, settings_in};
+ghost use Rattle.m88_cli.specs.Inside.Reading.{ReadsFit};
 ghost use Rattle.m88_cli.specs.Inside.Reply.{Replies};
 ghost use Rattle.m88_cli.specs.Limits.{most_input};
 ghost use Rattle.m88_cli.specs.Answer.Paging.{told_of_paged};
+ghost use Rattle.m88_cli.specs.Words.{texts};
 
+use crate::commands::Command;
 use crate::commands::assembly::image_of_source;
+use crate::grammar::{first_word, plain_settings};
+use crate::limits::MOST_FRAMES;
+use crate::numbers::decimal_number;
 use crate::reply::{Reply, refuse};
 use crate::settings::Settings;
 use m88_base::NoMemory;
 use m88_pager::{MemStore, Paged, page_run};
 use m88_report::{push_count, report};
 use std::alloc::Global;
+
+/// The paged run that the words after `page` ask for: the number of its frames (1 or 2 decimal digits, 1 to 64), and
+/// the settings of a run without a mode.
+pub fn paged_command<'a>(words: &'a [String]) -> Option<Command<'a>>
+    ensures { ReadsFit (Spells (codes "page" ∷ texts words.now)) command_of IsFit result }
+{
+    let (frames, words) = first_word(words)?;
+    let settings = plain_settings(words)?;
+    let frames = decimal_number(2, frames.as_bytes(), MOST_FRAMES)?;
+    if frames == 0 {
+        return None;
+    }
+    Some(Command::Page {
+        frames,
+        limit: settings.limit,
+        absent: settings.absent,
+        schedule: settings.schedule,
+    })
+}
 
 /// The reply of `page` to a source.
 pub fn page_source(

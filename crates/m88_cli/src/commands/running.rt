@@ -1,13 +1,17 @@
-//! What `run` and `exec` make of their input: a run on the board, and its report.
-ghost use Rattle.std.specs.Prelude.{ℕ, ◌≡◌, ◌≤◌, List, length, true};
+//! `run` and `exec`: a run on the board, and its report.
+ghost use Rattle.std.specs.Prelude.{ℕ, ◌≡◌, ◌≤◌, ◌∷◌, List, codes, length, true};
 ghost use Rattle.m88_event.specs.declared.outcome.Outcome.{Outcome as OutcomeValue};
-ghost use Rattle.m88_cli.specs.Command.{AreBounded, exec, run, settings_in};
+ghost use Rattle.m88_cli.specs.Command.{AreBounded, IsFit, Spells, command_of, exec, run, settings_in};
 ghost use Rattle.m88_cli.specs.Inside.Inputs.{AreRecordsOf};
+ghost use Rattle.m88_cli.specs.Inside.Reading.{ReadsFit};
 ghost use Rattle.m88_cli.specs.Inside.Reply.{AnswersShown};
 ghost use Rattle.m88_cli.specs.Inside.Running.{Reports, RunsImage};
 ghost use Rattle.m88_cli.specs.Limits.{most_input};
+ghost use Rattle.m88_cli.specs.Words.{texts};
 
+use crate::commands::Command;
 use crate::commands::assembly::image_of_source;
+use crate::grammar::settings;
 use crate::reply::{Reply, refuse};
 use crate::settings::Settings;
 use m88_base::{Image, NoMemory, Refusal};
@@ -15,6 +19,32 @@ use m88_board::{Board, Watch};
 use m88_event::Outcome;
 use m88_report::report;
 use std::alloc::Global;
+
+/// The run of a source that the words after `run` ask for.
+pub fn run_command<'a>(words: &'a [String]) -> Option<Command<'a>>
+    ensures { ReadsFit (Spells (codes "run" ∷ texts words.now)) command_of IsFit result }
+{
+    let settings = settings(words)?;
+    Some(Command::Run {
+        limit: settings.limit,
+        absent: settings.absent,
+        schedule: settings.schedule,
+        mxm: settings.mxm,
+    })
+}
+
+/// The run of S-records that the words after `exec` ask for.
+pub fn exec_command<'a>(words: &'a [String]) -> Option<Command<'a>>
+    ensures { ReadsFit (Spells (codes "exec" ∷ texts words.now)) command_of IsFit result }
+{
+    let settings = settings(words)?;
+    Some(Command::Exec {
+        limit: settings.limit,
+        absent: settings.absent,
+        schedule: settings.schedule,
+        mxm: settings.mxm,
+    })
+}
 
 /// The reply of `run` to a source.
 pub fn run_source<W: Watch>(

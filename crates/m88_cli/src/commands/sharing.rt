@@ -1,20 +1,46 @@
-//! What `share` makes of an input of sources: a run of their programs on one board, and what is told of it.
-ghost use Rattle.std.specs.Prelude.{◌≡◌, ◌++◌, ◌≤◌, IfOk, OnOk, length};
+//! `share`: a run of the programs of some sources on one board, and what is told of it.
+ghost use Rattle.std.specs.Prelude.{◌≡◌, ◌++◌, ◌≤◌, ◌∷◌, IfOk, OnOk, codes, length};
 ghost use Rattle.std.specs.List.{enumerate_from, flat_map};
 ghost use Rattle.m88_mem.specs.Marks.{NamesPages, absent_in};
-ghost use Rattle.m88_cli.specs.Command.{share};
+ghost use Rattle.m88_cli.specs.Command.{IsFit, Spells, command_of, share};
+ghost use Rattle.m88_cli.specs.Inside.Reading.{ReadsFit};
 ghost use Rattle.m88_cli.specs.Inside.Reply.{Replies};
 ghost use Rattle.m88_cli.specs.Limits.{most_input, most_limit};
 ghost use Rattle.m88_cli.specs.Answer.Sharing.{numbered_report, saved_line, switch_line, switch_lines, told_of_shared};
+ghost use Rattle.m88_cli.specs.Words.{texts};
 
+use crate::commands::Command;
 use crate::commands::numbered::push_numbered_event;
 use crate::commands::sources::images_of_sources;
+use crate::grammar::{first_word, no_more};
+use crate::limits::MOST_LIMIT;
+use crate::numbers::decimal_number;
+use crate::pages::absent_of;
 use crate::reply::{Reply, refuse};
 use m88_base::{Absent, NoMemory, push_decimal};
 use m88_event::Outcome;
 use m88_report::{push_count, push_named, report};
 use m88_tasks::{ShareSchedule, Shared, Switch, Tasks};
 use std::alloc::{AllocError, Global};
+
+/// The shared run that the words after `share` ask for: its limit, its absent pages and its schedule (`-`, or 1 to
+/// 65,536 letters `i`, `r`, `e` and `t`).
+pub fn share_command<'a>(words: &'a [String]) -> Option<Command<'a>>
+    ensures { ReadsFit (Spells (codes "share" ∷ texts words.now)) command_of IsFit result }
+{
+    let (limit, words) = first_word(words)?;
+    let (absent, words) = first_word(words)?;
+    let (schedule, rest) = first_word(words)?;
+    no_more(rest)?;
+    let limit = decimal_number(7, limit.as_bytes(), MOST_LIMIT)?;
+    let absent = absent_of(absent)?;
+    let schedule = ShareSchedule::read(schedule)?;
+    Some(Command::Share {
+        limit,
+        absent,
+        schedule,
+    })
+}
 
 /// The reply of `share` to an input of sources.
 pub fn share_board(

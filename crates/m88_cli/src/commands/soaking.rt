@@ -1,19 +1,41 @@
-//! What `soak` makes of its number and its count: a run of their workload, and its summary.
-ghost use Rattle.std.specs.Prelude.{ℕ, ◌≤◌, List};
-ghost use Rattle.m88_cli.specs.Command.{soak};
+//! `soak`: a run of the workload of a number and a count, and its summary.
+ghost use Rattle.std.specs.Prelude.{ℕ, ◌≤◌, ◌∷◌, List, codes};
+ghost use Rattle.m88_cli.specs.Command.{IsFit, Spells, command_of, soak};
 ghost use Rattle.m88_cli.specs.Limits.{most_statements};
+ghost use Rattle.m88_cli.specs.Inside.Reading.{ReadsFit};
 ghost use Rattle.m88_cli.specs.Inside.Reply.{AnswersShown};
+ghost use Rattle.m88_cli.specs.Words.{texts};
 
+use crate::commands::Command;
 use crate::commands::assembly::image_of_source;
 use crate::commands::running::outcome_of;
 use crate::commands::summary::summary;
 use crate::commands::workload::Draws;
+use crate::grammar::{first_word, no_more};
+use crate::limits::MOST_STATEMENTS;
+use crate::numbers::decimal_number;
 use crate::reply::Reply;
 use crate::settings::Settings;
 use m88_base::{Absent, NoMemory};
 use m88_board::Watch;
 use m88_event::Schedule;
 use std::alloc::Global;
+
+/// The workload that the words after `soak` ask for: its number (1 to 10 decimal digits, below 2^32) and the count of
+/// its statements (1 to 7 decimal digits, 1 to 40,000).
+pub fn workload_command<'a>(words: &[String]) -> Option<Command<'a>>
+    ensures { ReadsFit (Spells (codes "soak" ∷ texts words.now)) command_of IsFit result }
+{
+    let (number, words) = first_word(words)?;
+    let (count, words) = first_word(words)?;
+    no_more(words)?;
+    let number = decimal_number(10, number.as_bytes(), u32::MAX)?;
+    let count = decimal_number(7, count.as_bytes(), MOST_STATEMENTS)?;
+    if count == 0 {
+        return None;
+    }
+    Some(Command::Soak { number, count })
+}
 
 /// The reply of `soak` to a number and a count, whatever its input.
 pub fn run_workload<W: Watch>(

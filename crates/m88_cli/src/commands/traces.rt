@@ -1,17 +1,33 @@
-//! What `trace` makes of a source, and `check` of a source with lines of a trace behind it.
-ghost use Rattle.std.specs.Prelude.{◌≡◌, ◌+◌, ◌≤◌, IfOk, length};
-ghost use Rattle.m88_cli.specs.Command.{AreBounded, check, settings_in, trace};
+//! `trace`: the trace of a run of a source; and `check`: whether lines behind a source are the first of its trace.
+ghost use Rattle.std.specs.Prelude.{◌≡◌, ◌+◌, ◌≤◌, ◌∷◌, IfOk, codes, length};
+ghost use Rattle.m88_cli.specs.Command.{AreBounded, IsFit, Spells, check, command_of, settings_in, trace};
+ghost use Rattle.m88_cli.specs.Inside.Reading.{ReadsFit};
 ghost use Rattle.m88_cli.specs.Inside.Reply.{Replies};
 ghost use Rattle.m88_cli.specs.Limits.{most_input};
 ghost use Rattle.m88_cli.specs.TracedSources.{differs_refusal, no_trace_refusal};
+ghost use Rattle.m88_cli.specs.Words.{texts};
 
+use crate::commands::Command;
 use crate::commands::assembly::image_of_source;
+use crate::grammar::plain_settings;
 use crate::reply::{Reply, refuse};
 use crate::settings::Settings;
 use m88_base::{NoMemory, Refusal, parted_at};
 use m88_report::push_count;
 use m88_trace::{TraceFault, check_trace, trace_run};
 use std::alloc::Global;
+
+/// The run of which the words after `trace` ask for the trace.
+pub fn trace_command<'a>(words: &'a [String]) -> Option<Command<'a>>
+    ensures { ReadsFit (Spells (codes "trace" ∷ texts words.now)) command_of IsFit result }
+{
+    let settings = plain_settings(words)?;
+    Some(Command::Trace {
+        limit: settings.limit,
+        absent: settings.absent,
+        schedule: settings.schedule,
+    })
+}
 
 /// The reply of `trace` to a source.
 pub fn trace_source(alloc: Global, settings: &Settings, source: &[u8]) -> Result<Reply, NoMemory>

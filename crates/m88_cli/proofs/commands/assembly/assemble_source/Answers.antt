@@ -2,7 +2,7 @@
 use Rattle.std.proofs.Common.{ap, ◌∙◌}
 use Rattle.m88_link.specs.ObjectText.{objects_text}
 use Rattle.m88_cli.specs.Command.{asm}
-use Rattle.m88_cli.proofs.Linked.{assembled}
+use Rattle.m88_cli.specs.Inside.Linking.{IsObjectsOf}
 use Rattle.m88_cli.proofs.Refusing.{refused_reply}
 use Rattle.m88_cli.proofs.commands.assembly.assemble_source.Goals as goal
 
@@ -14,6 +14,12 @@ returns-in-Err c =
 
 pub returns : goal.returns
 returns c =
-    assembled c.args.source.now c.in_ok-text.text.items c.in-Ok.objects.items
-    (rw c.in-Ok.is at c.in_ok-objects.ensures.objects)
-    (c.in_ok-text.ensures.text ∙ ap objects_text c.as_slice.ensures.value)
+    let own : IsObjectsOf c.args.source.now c.in-Ok.objects.items = rw c.in-Ok.is at c.in_ok-objects.ensures.objects in
+    record {
+      accepted = record { unit = own.unit; is_unit = own.is_unit; is_assembled = own.is_assembled };
+      output = record {
+        unit = own.unit;
+        is_unit = own.is_unit;
+        is_text = c.in_ok-text.ensures.text ∙ ap objects_text (c.as_slice.ensures.value ∙ own.objects_are);
+      };
+    }

@@ -1,6 +1,7 @@
 -- The records of the image answer the source, and so does the line that refuses it.
+use Rattle.m88_asm.specs.Inside.Held.{HoldsUnit}
 use Rattle.m88_cli.specs.Command.{build}
-use Rattle.m88_cli.proofs.Linked.{linked}
+use Rattle.m88_cli.proofs.OneText.Linked.{recorded}
 use Rattle.m88_cli.proofs.Refusing.{refused_reply}
 use Rattle.m88_cli.proofs.commands.assembly.build_source.Goals as goal
 
@@ -12,6 +13,6 @@ returns-in-Err c =
 
 pub returns : goal.returns
 returns c =
-    linked c.args.source.now c.in_ok-text.text.items c.in-Ok.image
-    (rw c.in-Ok.is at c.in_ok-image.ensures)
+    let h : HoldsUnit c.args.source.now c.in-Ok.image = rw c.in-Ok.is at c.in_ok-image.ensures in
+    recorded c.args.source.now c.in_ok-text.text.items h.unit c.in-Ok.image h.is_unit h.is_accepted h.is_image
     c.in_ok-text.ensures.value

@@ -1,6 +1,7 @@
--- What is told of the run answers the source, and so does the line that refuses it.
+-- What is told of the run answers the source, whose image holds the program, and so does the line that refuses it.
+use Rattle.m88_asm.proofs.Laws.{accepted_source, holds_by_image}
+use Rattle.m88_asm.specs.Inside.Held.{HoldsUnit}
 use Rattle.m88_cli.specs.Command.{emu, settings_in}
-use Rattle.m88_cli.proofs.Emulated.{emulated}
 use Rattle.m88_cli.proofs.Refusing.{refused_reply}
 use Rattle.m88_cli.proofs.commands.emulation.emulate_source.Goals as goal
 
@@ -12,5 +13,9 @@ returns-in-Err c =
 pub returns : goal.returns
 returns c =
     let p = c.run.ensures.program in
-    emulated c.args.source.now c.in_ok-text.text.items c.in-Ok.image (settings_in c.args.settings.now) c.in_ok-outcome.outcome p.0
-    (rw c.in-Ok.is at c.in_ok-image.ensures) p.1 c.in_ok-outcome.ensures.outcome c.in_ok-text.ensures
+    let holds : HoldsUnit c.args.source.now c.in-Ok.image = rw c.in-Ok.is at c.in_ok-image.ensures in
+    record {
+      accepted = accepted_source c.args.source.now c.in-Ok.image holds;
+      output = holds_by_image c.args.source.now c.in-Ok.image p.0 _ holds p.1
+          (λ q is mode. (c.in_ok-outcome.outcome, c.in_ok-outcome.ensures.outcome q is mode, c.in_ok-text.ensures));
+    }

@@ -1,9 +1,9 @@
 -- The listing of the image answers the records, and so does the line that refuses them.
 use Rattle.std.proofs.Common.{arith, subst}
 use Rattle.m88_base.proofs.Laws.{few_parts}
+use Rattle.m88_srec.specs.Accepted.{whole_of}
 use Rattle.m88_cli.specs.Command.{dis}
 use Rattle.m88_cli.specs.Inside.Inputs.{AreRecordsOf}
-use Rattle.m88_cli.proofs.Listed.{listed}
 use Rattle.m88_cli.proofs.Refusing.{refused_reply}
 use Rattle.m88_cli.proofs.commands.loading.list_records.Goals as goal
 
@@ -15,8 +15,15 @@ returns-in-Err c = λ text are.
 pub returns : goal.returns
 returns c = λ text are.
     let written = subst (λ records. AreRecordsOf records text) c.in-Ok.is are in
-    listed text c.in_ok-text.text.items c.in-Ok.image c.part_count.ensures.image written
-    c.in_ok-text.ensures.value
+    record {
+      accepted = (whole_of c.in-Ok.image, written);
+      output = record {
+        image = c.in-Ok.image;
+        is_image = c.part_count.ensures.image;
+        is_written = written;
+        is_listing = c.in_ok-text.ensures.value;
+      };
+    }
 
 -- each part has a byte
 pub prove-unreachable-requires : goal.prove-unreachable-requires

@@ -1,7 +1,7 @@
 -- A session over the program of the source behind the script answers the input.
 use Rattle.std.proofs.Common.{inr, rules}
 use Rattle.m88_cli.specs.Command.{mon, settings_in}
-use Rattle.m88_cli.proofs.InputSessions.{accepted_input, front_of_input, session_of_input, shown_to_end}
+use Rattle.m88_cli.proofs.OneText.InputSessions.{accepted_input, front_of_input, session_of_input, shown_to_end}
 use Rattle.m88_cli.proofs.Refusing.{refused_shown}
 use Rattle.m88_cli.proofs.Reporting.{answers_none}
 use Rattle.m88_cli.proofs.commands.monitoring.run_monitor.Goals as goal

@@ -1,6 +1,9 @@
--- What is told of the run answers the source, and so does the line that refuses it.
+-- What is told of the run answers the source, whose image holds the program, and so does the line that refuses it.
+use Rattle.m88_asm.proofs.Laws.{accepted_source, holds_by_image}
+use Rattle.m88_asm.specs.Inside.Held.{HoldsUnit}
+use Rattle.m88_cli.specs.Answer.Paging.{PagesTo}
 use Rattle.m88_cli.specs.Command.{page, settings_in}
-use Rattle.m88_cli.proofs.Paged.{paged}
+use Rattle.m88_cli.proofs.OneText.Paged.{one_count}
 use Rattle.m88_cli.proofs.Refusing.{refused_reply}
 use Rattle.m88_cli.proofs.commands.paging.page_source.Goals as goal
 
@@ -11,8 +14,18 @@ returns-in-Err c =
 
 pub returns : goal.returns
 returns c =
+    let s = settings_in c.args.settings.now in
     let p = c.page_run.ensures.program in
-    paged c.args.source.now c.args.frames (settings_in c.args.settings.now) c.in_ok-text.text.items c.in-Ok.image
-    c.in-Ok-page_run.paged p.0 (rw c.in-Ok.is at c.in_ok-image.ensures) p.1
-    (λ q is mode. (c.in-Ok-page_run.ensures.run q is mode).outcome tt) (λ q is mode. (c.in-Ok-page_run.ensures.run q is mode).counts)
-    c.in_ok-text.ensures
+    let holds : HoldsUnit c.args.source.now c.in-Ok.image = rw c.in-Ok.is at c.in_ok-image.ensures in
+    let comes : PagesTo c.args.source.now c.args.frames s c.in-Ok-page_run.paged =
+    holds_by_image c.args.source.now c.in-Ok.image p.0 _ holds p.1 (λ q is mode.
+    let run = c.in-Ok-page_run.ensures.run q is mode in (run.outcome tt, run.counts)) in
+    record {
+      accepted = accepted_source c.args.source.now c.in-Ok.image holds;
+      output = record {
+        paged = c.in-Ok-page_run.paged;
+        comes = comes;
+        alone = λ t other same also. one_count c.args.source.now c.args.frames s t other c.in-Ok-page_run.paged same also comes;
+        is_text = c.in_ok-text.ensures;
+      };
+    }

@@ -1,7 +1,8 @@
--- The trace answers the source, and so does the line that refuses it.
+-- The trace answers the source, whose image holds the program that it is of, and so does the line that refuses it.
+use Rattle.m88_asm.proofs.Laws.{accepted_source, holds_by_image}
+use Rattle.m88_asm.specs.Inside.Held.{HoldsUnit}
 use Rattle.m88_cli.specs.Command.{settings_in, trace}
 use Rattle.m88_cli.proofs.Refusing.{refused_reply}
-use Rattle.m88_cli.proofs.Traced.{traced}
 use Rattle.m88_cli.proofs.commands.traces.trace_source.Goals as goal
 
 pub returns-in-Err : goal.returns-in-Err
@@ -12,5 +13,9 @@ returns-in-Err c =
 pub returns : goal.returns
 returns c =
     let p = c.trace_run.ensures.program in
-    traced c.args.source.now (settings_in c.args.settings.now) c.in_ok-text.text.items c.in-Ok.image p.0
-    (rw c.in-Ok.is at c.in_ok-image.ensures) p.1 c.in_ok-text.ensures.run c.in_ok-text.ensures.alone
+    let holds : HoldsUnit c.args.source.now c.in-Ok.image = rw c.in-Ok.is at c.in_ok-image.ensures in
+    record {
+      accepted = accepted_source c.args.source.now c.in-Ok.image holds;
+      output = holds_by_image c.args.source.now c.in-Ok.image p.0 _ holds p.1
+          (λ q is mode. (c.in_ok-text.ensures.run q is mode, c.in_ok-text.ensures.alone q is mode));
+    }

@@ -1,14 +1,10 @@
--- The listing of the image that S-records write answers them.
+-- S-records write one image.
 use Rattle.std.proofs.Common.{◌≡◌, List, ℕ, ap}
 use Rattle.m88_base.specs.Image.{IsImage, ProgramImage}
 use Rattle.m88_base.proofs.Laws.{same_images}
-use Rattle.m88_disasm.specs.Listing.{IsImageListing}
 use Rattle.m88_srec.proofs.Laws.{verdict_takes}
 use Rattle.m88_srec.specs.Accepted.{IsAccepted, Whole, whole_of}
-use Rattle.m88_cli.specs.Answer.{IsAnswerToAccepted}
-use Rattle.m88_cli.specs.Command.{dis}
 
--- S-records write one image
 pub one_written : (records : List ℕ) (i j : ProgramImage) → IsImage i → IsImage j → IsAccepted records (whole_of i)
     → IsAccepted records (whole_of j) → i ≡ j
 one_written records i j a b written other =
@@ -16,11 +12,3 @@ one_written records i j a b written other =
     let two = verdict_takes records (whole_of j) other in
     let whole : whole_of i ≡ whole_of j = cc in
     same_images i j a.apart b.apart (ap (λ (w : Whole). w.start) whole) (λ n. ap (λ (w : Whole). w.found n) whole)
-
--- and its listing answers them
-pub listed : (records text : List ℕ) (image : ProgramImage) → IsImage image → IsAccepted records (whole_of image) → IsImageListing image text
-    → IsAnswerToAccepted dis records text
-listed records text image is_image written is_listing = record {
-  accepted = (whole_of image, written);
-  output = record { image = image; is_image = is_image; is_written = written; is_listing = is_listing };
-}

@@ -1,5 +1,5 @@
 -- An input of `mon` has one session: one script, one program of the source behind it, and one text.
-use Rattle.std.proofs.Common.{◌≡◌, ℕ, List, [], ◌∷◌, Option, inl, refl, sym, ◌∙◌, subst, arith}
+use Rattle.std.proofs.Common.{◌≡◌, ℕ, List, [], ◌∷◌, Option, ap, inl, refl, sym, ◌∙◌, subst, arith}
 use Rattle.m88_base.specs.Image.{IsImage, ProgramImage}
 use Rattle.m88_isa.specs.Machine.{Program}
 use Rattle.m88_board.specs.declared.glance.Glance.{Glance}
@@ -11,7 +11,7 @@ use Rattle.m88_cli.specs.Answer.MonitorText.{IsInputSession, IsMonitorText, Scri
 use Rattle.m88_asm.specs.Sources.{IsSourceProgram}
 use Rattle.m88_cli.specs.Inside.Running.{OfImage}
 use Rattle.m88_cli.specs.Inside.SessionKept.{ShowsFront, TellsSession}
-use Rattle.m88_cli.specs.Script.{IsScript}
+use Rattle.m88_cli.specs.Script.{IsScript, ScriptParts}
 use Rattle.m88_cli.specs.Answer.Session.{Course, IsSession, Session, course_of, moments_of, opening_session}
 use Rattle.m88_cli.specs.Settings.{Settings}
 use Rattle.m88_cli.specs.Watching.{FrontOfAccepted, Shown}
@@ -37,11 +37,14 @@ pub one_session_text : (input : List ℕ) (s : Settings) (a b : List ℕ) (glanc
 one_session_text input s a b glances others x y =
     let xs = x.scripted in
     let ys = y.scripted in
-    let script = one_script input x.commands y.commands xs.lines ys.lines xs.source ys.source xs.is_script ys.is_script in
-    let program = one_source_program ys.source x.program y.program (subst (λ t. IsSourceProgram t x.program) script.source xs.is_program) ys.is_program
+    let script = one_script input (record { commands = x.commands; lines = xs.lines; source = xs.source })
+    (record { commands = y.commands; lines = ys.lines; source = ys.source }) xs.is_script ys.is_script in
+    let commands = ap (λ (p : ScriptParts). p.commands) script in
+    let program = one_source_program ys.source x.program y.program
+    (subst (λ (p : ScriptParts). IsSourceProgram p.source x.program) script xs.is_program) ys.is_program
     (xs.mode ∙ sym ys.mode) in
     (one_session (course_of y.program s) y.commands opening_session a b glances others
-    (moved s x.commands y.commands x.program y.program a glances script.commands program x.is_session) y.is_session).0
+    (moved s x.commands y.commands x.program y.program a glances commands program x.is_session) y.is_session).0
 
 -- before the first event nothing was seen
 pub no_session_front : (c : Course) (commands : List MonitorCommand) (s : Session) → IsSessionFront c commands s []

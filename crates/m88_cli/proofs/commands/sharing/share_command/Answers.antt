@@ -1,10 +1,18 @@
 -- The words say the limit, the pages and the letters that are read of them, and nothing else.
-use Rattle.std.proofs.Common.{◌≡◌, rules}
+use Rattle.std.proofs.Common.{◌≡◌, ℕ, Bool, List, ◌∷◌, codes, rules}
 use Rattle.m88_mem.specs.Marks.{absent_in}
-use Rattle.m88_cli.specs.Command.{share}
+use Rattle.m88_tasks.specs.declared.letter.ShareLetter.{ShareLetter}
+use Rattle.m88_cli.specs.Command.{Command, Spells, share}
+use Rattle.m88_cli.specs.Settings.{SayShared}
 use Rattle.m88_cli.proofs.NoneRead.{reads_none}
-use Rattle.m88_cli.proofs.Spelled.{share_said}
-use Rattle.m88_cli.proofs.grammar.share_command.Goals as goal
+use Rattle.m88_cli.proofs.commands.sharing.share_command.Goals as goal
+
+-- what holds of each run that the words behind the name say holds of each command that they spell
+share_said : (words : List (List ℕ)) (Holds : Command → Type 0)
+    → ((limit : ℕ) (absent : ℕ → Bool) (schedule : List ShareLetter) → SayShared words limit absent schedule
+    → Holds (share limit absent schedule))
+    → (choice : Command) → Spells (codes "share" ∷ words) choice → Holds choice
+share_said = search rules
 
 pub returns-in_err-absent-2 : goal.returns-in_err-absent-2
 returns-in_err-absent-2 c = reads_none c.from_residual-in_err-absent-2.result (search rules)

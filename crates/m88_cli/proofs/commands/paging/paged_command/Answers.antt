@@ -1,10 +1,16 @@
 -- The words say the number of frames that is read of them, and behind it what is read of the others.
-use Rattle.std.proofs.Common.{◌≡◌, ap₂, false, refl, rules}
-use Rattle.m88_cli.specs.Command.{page, settings_of}
+use Rattle.std.proofs.Common.{◌≡◌, ℕ, List, ◌∷◌, ap₂, codes, false, refl, rules}
+use Rattle.m88_cli.specs.Command.{Command, Spells, page, settings_of}
+use Rattle.m88_cli.specs.Settings.{SayPaged, Settings}
 use Rattle.m88_cli.specs.Words.{texts}
 use Rattle.m88_cli.proofs.NoneRead.{reads_none}
-use Rattle.m88_cli.proofs.Spelled.{page_said}
-use Rattle.m88_cli.proofs.grammar.paged_command.Goals as goal
+use Rattle.m88_cli.proofs.commands.paging.paged_command.Goals as goal
+
+-- what holds of each run that the words behind the name say holds of each command that they spell
+page_said : (words : List (List ℕ)) (Holds : Command → Type 0)
+    → ((frames : ℕ) (settings : Settings) → SayPaged words frames settings → Holds (page frames settings))
+    → (choice : Command) → Spells (codes "page" ∷ words) choice → Holds choice
+page_said = search rules
 
 pub returns-in_err-settings : goal.returns-in_err-settings
 returns-in_err-settings c = reads_none c.from_residual-in_err-settings.result (search rules)
