@@ -27,36 +27,38 @@ use Rattle.m88_cli.specs.Inside.Running.{GoesAlong, OfImage, Reports, RunsImage,
 use Rattle.m88_cli.specs.Answer.Runs.{IsLoadedProgram, IsReport}
 use Rattle.m88_cli.specs.Settings.{Settings}
 use Rattle.m88_cli.specs.Inside.Fronts.{SawFront, SawRun}
-use Rattle.m88_cli.specs.Watching.{FrontOfAccepted, Shown, Shows, ShowsRun}
+use Rattle.m88_cli.specs.Watching.{FrontOfAccepted, Shown, ShowsGlances, ShowsRun}
 use Rattle.m88_base.specs.declared.reply.Reply.{Reply}
 
 -- an outcome has as many events as the run
-events_of : (p : Program) (m : Moment) → (outcome_at p m).events ≡ m.events
-unfolding outcome_at
-events_of p m = refl
-
 pub outcome_counts : (p : Program) (named : ℕ → Bool) (limit : ℕ) (schedule : List Letter) (o : Outcome) (is : IsOutcome p named limit schedule o)
     → o.events ≡ is.events
+unfolding outcome_at
 outcome_counts p named limit schedule o is =
     let made : (moment_after p named limit schedule is.events).events ≡ 0 + is.events =
     along_events p named limit (letter_at schedule) opening_moment is.events in
-    ap (λ (x : Outcome). x.events) is.value ∙ events_of p (moment_after p named limit schedule is.events) ∙ omega (arith, made)
+    ap (λ (x : Outcome). x.events) is.value ∙ omega (arith, made)
 
 -- what was seen of as many events as the outcome has was seen of the run
 pub saw_run : (p : Program) (s : Settings) (before after : Option (List Glance)) (o : Outcome) → p.mxm ≡ s.mxm
     → IsOutcome p s.absent s.limit s.schedule o → Saw before after (glances_along p (moment_after p s.absent s.limit s.schedule) o.events)
     → SawRun p s before after
-saw_run p s before after o mode is saw = record {
-  mode = mode;
-  events = is.events;
-  is_run = is.run;
-  saw = subst (λ k. Saw before after (glances_along p (moment_after p s.absent s.limit s.schedule) k)) (outcome_counts p s.absent s.limit s.schedule o is) saw;
-}
+saw_run p s before after o mode is saw = (
+  glances_along p (moment_after p s.absent s.limit s.schedule) is.events,
+  record { mode = mode; events = is.events; is_run = is.run; glances_are = refl },
+  subst (λ k. Saw before after (glances_along p (moment_after p s.absent s.limit s.schedule) k))
+      (outcome_counts p s.absent s.limit s.schedule o is) saw,
+)
 
 -- and of its front
 pub front_of_run : (p : Program) (s : Settings) (before after : Option (List Glance))
     → SawRun p s before after → SawFront p s before after
-front_of_run p s before after seen = record { mode = seen.mode; events = seen.events; is_running = seen.is_run.first; saw = seen.saw }
+front_of_run p s before after (glances, whole, saw) = record {
+  mode = whole.mode;
+  events = whole.events;
+  is_running = whole.is_run.first;
+  saw = subst (λ shown. Saw before after shown) whole.glances_are saw;
+}
 
 -- before the first event nothing was seen
 pub no_glance : (p : Program) (moments : ℕ → Moment) → glances_along p moments 0 ≡ []
@@ -82,7 +84,7 @@ pub record RunsBy (told_of : Outcome → List ℕ) (IsSuch : Program → Type 0)
   pub accepted : Accepts command input
   pub held : Held IsSuch s.mxm image
   pub is_output : (text : List ℕ) → IsReport told_of IsSuch s text → IsOutput command input text
-  pub shows : (p : Program) (glances : List Glance) → IsSuch p → ShowsRun p s glances → Shows command input glances
+  pub shows : (p : Program) (glances : List Glance) → IsSuch p → ShowsRun p s glances → ShowsGlances command input glances
   pub is_image : IsImage image
 
 module _ (told_of : Outcome → List ℕ) (IsSuch : Program → Type 0) (command : Command) (input : List ℕ) (s : Settings) (image : ProgramImage)
@@ -109,9 +111,7 @@ module _ (told_of : Outcome → List ℕ) (IsSuch : Program → Type 0) (command
       → Shown command input before after
   run_shown before after saw =
       let h = r.held in
-      let seen = saw h.program h.of_image h.mode in
-      let glances = glances_along h.program (moment_after h.program s.absent s.limit s.schedule) seen.events in
-      (glances, r.shows h.program glances h.is_such (record { mode = seen.mode; events = seen.events; is_run = seen.is_run; glances_are = refl }), seen.saw)
+      let seen = saw h.program h.of_image h.mode in (seen.0, r.shows h.program seen.0 h.is_such seen.1, seen.2)
 
   pub run_front : (before after : Option (List Glance)) → OfImage image s (λ p. SawFront p s before after)
       → FrontOfAccepted command input before after

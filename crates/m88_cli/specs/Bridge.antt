@@ -14,7 +14,7 @@ use Rattle.m88_cli.specs.Answer.Runs.{IsLoadedProgram}
 use Rattle.m88_asm.specs.Sources.{IsSourceProgram}
 use Rattle.m88_cli.specs.Settings.{Settings}
 use Rattle.m88_cli.specs.TracedSources.{trace_separator}
-use Rattle.m88_cli.specs.Watching.{Shows}
+use Rattle.m88_cli.specs.Watching.{ShowsGlances}
 
 -- a text is short enough to be an input
 abbrev pub FitsInput : List ℕ → Type 0
@@ -28,7 +28,7 @@ pub record RunAlike (source records : List ℕ) : Type 0 where
       → IsAnswerToAccepted (run settings) source report
       ↔ IsAnswerToAccepted (exec settings) records report
   pub shows : (settings : Settings) (glances : List Glance)
-      → Shows (run settings) source glances ↔ Shows (exec settings) records glances
+      → ShowsGlances (run settings) source glances ↔ ShowsGlances (exec settings) records glances
 
 -- a source and the records that `build` writes of it run alike
 abbrev pub BuiltRunsAlike : Type 0

@@ -21,24 +21,24 @@ pub record ShowsRun (p : Program) (s : Settings) (glances : List Glance) : Type 
   pub glances_are : glances ≡ glances_along p (moment_after p s.absent s.limit s.schedule) events
 
 -- what a command shows that carries out an input
-abbrev pub Shows : Command → List ℕ → List Glance → Type 0
-Shows (run settings) source glances = (p : Program) × IsSourceProgram source p × ShowsRun p settings glances
-Shows (exec settings) text glances = (p : Program) × IsLoadedProgram text p × ShowsRun p settings glances
-Shows (mon settings) input glances = (text : List ℕ) × IsInputSession input settings text glances
-Shows (soak number count) input glances = (p : Program) × IsSourceProgram (workload_source number count) p
+abbrev pub ShowsGlances : Command → List ℕ → List Glance → Type 0
+ShowsGlances (run settings) source glances = (p : Program) × IsSourceProgram source p × ShowsRun p settings glances
+ShowsGlances (exec settings) text glances = (p : Program) × IsLoadedProgram text p × ShowsRun p settings glances
+ShowsGlances (mon settings) input glances = (text : List ℕ) × IsInputSession input settings text glances
+ShowsGlances (soak number count) input glances = (p : Program) × IsSourceProgram (workload_source number count) p
     × ShowsRun p (workload_settings number count) glances
-Shows _ input glances = glances ≡ []
+ShowsGlances _ input glances = glances ≡ []
 
 -- a watch was shown all of that
 abbrev pub Shown : Command → List ℕ → Option (List Glance) → Option (List Glance) → Type 0
-Shown command input before after = (glances : List Glance) × Shows command input glances × Saw before after glances
+Shown command input before after = (glances : List Glance) × ShowsGlances command input glances × Saw before after glances
 
 -- or a front of it, over an input that the command accepts: others come behind what it was shown
 pub record FrontOfAccepted (command : Command) (input : List ℕ) (before after : Option (List Glance)) : Type 0 where
   pub accepted : Accepts command input
   pub glances : List Glance
   pub others : List Glance
-  pub shows : Shows command input (glances ++ others)
+  pub shows : ShowsGlances command input (glances ++ others)
   pub saw : Saw before after glances
 
 -- a watch, of which it is known how it tells what it was shown, was shown the whole of a command where the command

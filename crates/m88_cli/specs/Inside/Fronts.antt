@@ -1,19 +1,17 @@
 -- What a watch was shown of a run and of a session, whole or so far as memory lasted.
 use Rattle.std.specs.Prelude.{ℕ, List, [], ◌∷◌, ◌++◌, ◌≡◌, ◌⊎◌, Option}
 use Rattle.m88_isa.specs.Machine.{Program}
-use Rattle.m88_event.specs.Run.{IsRun, IsRunning, NotBefore, moment_after}
+use Rattle.m88_event.specs.Run.{IsRunning, NotBefore, moment_after}
 use Rattle.m88_board.specs.Glances.{Saw, glances_along}
 use Rattle.m88_board.specs.declared.glance.Glance.{Glance}
 use Rattle.m88_cli.specs.Answer.Session.{Course, Makes, Session, after_command, glances_of, stops_command}
 use Rattle.m88_cli.specs.Settings.{Settings}
+use Rattle.m88_cli.specs.Watching.{ShowsRun}
 use Rattle.m88_cli.specs.declared.script.MonitorCommand.{MonitorCommand}
 
 -- a watch was shown a board at each moment of a whole run of a program, in the mode of the settings
-pub record SawRun (p : Program) (s : Settings) (before after : Option (List Glance)) : Type 0 where
-  pub mode : p.mxm ≡ s.mxm
-  pub events : ℕ
-  pub is_run : IsRun p s.absent s.limit s.schedule events
-  pub saw : Saw before after (glances_along p (moment_after p s.absent s.limit s.schedule) events)
+abbrev pub SawRun : Program → Settings → Option (List Glance) → Option (List Glance) → Type 0
+SawRun p s before after = (glances : List Glance) × ShowsRun p s glances × Saw before after glances
 
 -- or at its first moments
 pub record SawFront (p : Program) (s : Settings) (before after : Option (List Glance)) : Type 0 where

@@ -1,5 +1,5 @@
 //! The sources of an input, parted by its lines `program`, and their images.
-ghost use Rattle.std.specs.Prelude.{ℕ, ◌≡◌, ◌≤◌, IfErr, IfOk, MatchResult, length};
+ghost use Rattle.std.specs.Prelude.{◌≡◌, ◌≤◌, IfErr, IfOk, MatchResult, length};
 ghost use Rattle.std.specs.List.{All};
 ghost use Rattle.m88_cli.specs.Limits.{most_input};
 ghost use Rattle.m88_cli.specs.Inside.Placing.{HoldSources, IsShort, all_placed};
