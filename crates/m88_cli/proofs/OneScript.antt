@@ -61,19 +61,10 @@ module _ (input : List ℕ) where
     ]
   ]
 
-  -- one script
-  same_script : (s t : ScriptParts) → IsScriptOf input s → IsScriptOf input t → s ≡ t
-  same_script s t h k =
-      let same = one_script input s.commands t.commands s.lines t.lines s.source t.source h k in
-      let commands = same.commands in
-      let lines = same.lines in
-      let source = same.source in
-      λ i. record { commands = commands i; lines = lines i; source = source i }
-
   pub one_verdict : HasOneVerdict (IsScriptOf input) (HasNoScript input)
   one_verdict = record {
     some = told;
-    not_both = λ s n script none. not_both input s.commands s.lines n s.source script none;
-    one_value = same_script;
+    not_both = not_both input;
+    one_value = one_script input;
     one_fault = one_stop input;
   }

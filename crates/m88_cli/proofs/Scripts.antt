@@ -3,26 +3,23 @@ use Rattle.std.proofs.Common.{◌≡◌, ℕ, zero, suc, ◌≤◌, ◌<◌, ◌
 use Rattle.std.specs.List.{count_by}
 use Rattle.std.proofs.lemmas.List.{take-append-drop}
 use Rattle.std.proofs.lemmas.List.Sums.{sum_by-append}
-use Rattle.std.specs.Prelude.{Option, Some, None, Bool, true, false, not, ◌&&◌, ◌||◌, cond, nat_lt, ◌≢◌}
+use Rattle.std.specs.Prelude.{Bool, true, false, not, ◌&&◌, ◌||◌, cond, nat_lt, ◌≢◌}
 use Rattle.std.proofs.lemmas.Bool.{cases_order, lt-ltb, ltb-false, ltb-true}
 use Rattle.m88_base.specs.Lines.{lines_of}
 use Rattle.m88_base.proofs.Laws.{one_parting, parted_not_unparted}
-use Rattle.m88_cli.specs.Script.{AreScriptLines, HasNoScript, IsScript, StopsScript, WriteCommands, WritesCommand, is_break, most_breaks, most_commands, source_line, stopped, stopped_alone, unended}
+use Rattle.m88_cli.specs.Script.{AreScriptLines, HasNoScript, IsScriptOf, ScriptParts, StopsScript, WriteCommands, WritesCommand, is_break, most_breaks, most_commands, source_line, stopped, stopped_alone, unended}
 use Rattle.m88_cli.specs.Inside.ScriptWords.{has_room}
 use Rattle.m88_cli.specs.declared.script.MonitorCommand.{MonitorCommand}
-use Rattle.m88_cli.specs.declared.script.MonitorCommand.TheVariants.{Step, Go, Break, Regs, Pipe, Memory, Drain, Trace}
+use Rattle.m88_cli.specs.declared.script.MonitorCommand.TheVariants.{Step, Break, Memory, Trace}
 use Rattle.m88_cli.proofs.ScriptLines.{same_command}
 
 -- an empty line writes no command
 empty_writes_none : (c : MonitorCommand) → WritesCommand c [] → ⊥
 empty_writes_none (Step n) h = absurd (let e = h.line_is in cc)
-empty_writes_none Go h = absurd cc
 empty_writes_none (Break address) h = absurd (let e = h.line_is in cc)
-empty_writes_none Regs h = absurd cc
-empty_writes_none Pipe h = absurd cc
 empty_writes_none (Memory address count) h = absurd (let e = h.line_is in cc)
-empty_writes_none Drain h = absurd cc
 empty_writes_none (Trace n) h = absurd (let e = h.line_is in cc)
+empty_writes_none _ h = absurd cc
 
 -- one line more, with its command or empty
 alone : (line : List ℕ) (c : MonitorCommand) → WritesCommand c line → WriteCommands (line ∷ []) (c ∷ [])
@@ -145,27 +142,21 @@ one_line lines m n h k = elim (cases_order m n) [
 ]
 
 -- an input has one script, or none at one line
-pub record SameScript (cs ds : List MonitorCommand) (n m : ℕ) (s t : List ℕ) : Type 0 where
-  pub commands : cs ≡ ds
-  pub lines : n ≡ m
-  pub source : s ≡ t
+pub one_script : (input : List ℕ) (s t : ScriptParts) → IsScriptOf input s → IsScriptOf input t → s ≡ t
+one_script input s t h k =
+    let same = one_parting source_line input h.script s.lines s.source h.is_parted k.script t.lines t.source k.is_parted in
+    let commands = same_commands (lines_of k.script) s.commands t.commands
+    (subst (λ text. WriteCommands (lines_of text) s.commands) same.0 h.are_script.write) k.are_script.write in
+    λ i. record { commands = commands i; lines = same.1 i; source = same.2 i }
 
-pub one_script : (input : List ℕ) (cs ds : List MonitorCommand) (n m : ℕ) (s t : List ℕ) → IsScript input cs n s → IsScript input ds m t
-    → SameScript cs ds n m s t
-one_script input cs ds n m s t h k =
-    let same = one_parting source_line input h.script n s h.is_parted k.script m t k.is_parted in
-    record {
-      commands = same_commands (lines_of k.script) cs ds (subst (λ text. WriteCommands (lines_of text) cs) same.0 h.are_script.write) k.are_script.write;
-      lines = same.1;
-      source = same.2;
-    }
-
-pub not_both : (input : List ℕ) (cs : List MonitorCommand) (n m : ℕ) (source : List ℕ) → IsScript input cs n source → HasNoScript input m → ⊥
-not_both input cs n m source h (stopped script i other parted stops) =
-    let same = one_parting source_line input script i other parted h.script n source h.is_parted in
-    not_stopped (lines_of h.script) m cs h.are_script (subst (λ text. StopsScript (lines_of text) m) same.0 stops)
-not_both input cs n m source h (stopped_alone i unparted stops) = parted_not_unparted source_line input h.script n source h.is_parted i unparted
-not_both input cs n m source h (unended i others unparted are e) = parted_not_unparted source_line input h.script n source h.is_parted i unparted
+pub not_both : (input : List ℕ) (s : ScriptParts) (n : ℕ) → IsScriptOf input s → HasNoScript input n → ⊥
+not_both input s n h (stopped script i other parted stops) =
+    let same = one_parting source_line input script i other parted h.script s.lines s.source h.is_parted in
+    not_stopped (lines_of h.script) n s.commands h.are_script (subst (λ text. StopsScript (lines_of text) n) same.0 stops)
+not_both input s n h (stopped_alone i unparted stops) =
+    parted_not_unparted source_line input h.script s.lines s.source h.is_parted i unparted
+not_both input s n h (unended i others unparted are e) =
+    parted_not_unparted source_line input h.script s.lines s.source h.is_parted i unparted
 
 pub one_stop : (input : List ℕ) (m n : ℕ) → HasNoScript input m → HasNoScript input n → m ≡ n
 one_stop input m n (stopped a i s h stops) (stopped b j t k stop) =
@@ -214,7 +205,3 @@ one_more_is_none lines cs es line c e is h =
     no_room lines cs es line c h is
     (λ short few. full_by (nat_lt (length cs) most_commands) (is_break c) (nat_lt (count_of cs) most_breaks) (count_of cs) e
     (λ full. ltb-false (count_of cs) most_breaks full) (lt-ltb (length cs) most_commands short) (omega (arith, few, count_more cs c)))
-
--- what isn't read can't be told
-pub none_told : (o : Option MonitorCommand) (c : MonitorCommand) → o ≡ None → o ≡ Some c → ⊥
-none_told o c e f = absurd (let k : None ≡ Some c = sym e ∙ f in cc)

@@ -1,9 +1,8 @@
 //! The script of the monitor.
-ghost use Rattle.std.specs.Prelude.{ℕ, ◌≡◌, ◌≤◌, IfErr, IfOk, List, MatchResult, length};
+ghost use Rattle.std.specs.Prelude.{◌≤◌, IfErr, IfOk, length};
 ghost use Rattle.m88_base.specs.Lines.{lines_of};
 ghost use Rattle.m88_cli.specs.Limits.{most_input};
 ghost use Rattle.m88_cli.specs.Script.{AreScriptLines, HasNoScript, IsScript, StopsScript};
-ghost use Rattle.m88_cli.specs.declared.script.MonitorCommand.{MonitorCommand as CommandValue};
 
 use crate::script_lines::{MOST_COMMANDS, take_line};
 use arrayvec::ArrayVec;
@@ -61,13 +60,6 @@ pub fn read_script(input: &[u8]) -> Result<Script<'_>, ScriptFault>
     ensures script { IfOk result (λ s. IsScript input.now s.commands.items s.lines s.source.now) }
     ensures short { IfOk result (λ s. length s.source.now ≤ length input.now) }
     ensures fault { IfErr result (λ fault. HasNoScript input.now fault.line) }
-
-    // An input has one script, or one line at which it has none.
-    ensures only { (commands : List CommandValue) (n : ℕ) (source : List ℕ)
-        → IsScript input.now commands n source → MatchResult result
-        (λ s. (s.commands.items ≡ commands) × (s.lines ≡ n) × (s.source.now ≡ source)) (λ _. ⊥) }
-    ensures only_fault { (n : ℕ) → HasNoScript input.now n
-        → MatchResult result (λ _. ⊥) (λ fault. fault.line ≡ n) }
 {
     match parted_at(input, b"source") {
         Ok(parted) => match commands_in(parted.before) {
