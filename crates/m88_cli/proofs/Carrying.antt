@@ -4,26 +4,21 @@ use Rattle.std.proofs.Common.{add-one, append_assoc, arith, append-nil, refl, sy
 use Rattle.std.proofs.lemmas.List.{drop_all}
 use Rattle.std.proofs.lemmas.List.Sums.{sum_by-append}
 use Rattle.m88_event.proofs.Laws.{one_first}
-use Rattle.m88_event.specs.Timeline.{Moment, opening_moment}
-use Rattle.m88_isa.specs.Address.{word_address}
+use Rattle.m88_event.specs.Timeline.{Moment}
 use Rattle.m88_isa.specs.Machine.{Program}
 use Rattle.m88_board.proofs.Laws.{saw_none, saw_then}
-use Rattle.m88_board.specs.Board.{BoardView}
 use Rattle.m88_board.specs.Glances.{Saw}
 use Rattle.m88_board.specs.Moves.{IsAt}
 use Rattle.m88_board.specs.declared.glance.Glance.{Glance}
-use Rattle.m88_board.specs.declared.walk.Walk.{Walk}
 use Rattle.m88_cli.proofs.MonitorWalks.{each_none}
 use Rattle.m88_cli.proofs.Reporting.{no_glance}
-use Rattle.m88_cli.specs.Settings.{Settings}
 use Rattle.m88_cli.specs.Answer.MonitorLines.{counts_text}
 use Rattle.m88_cli.specs.Script.{is_break, most_breaks}
-use Rattle.m88_cli.specs.Answer.Session.{Course, IsSession, Session, after_command, course_of, glances_of, moments_of, opening_session, stops_command, text_of_command}
+use Rattle.m88_cli.specs.Answer.Session.{Course, IsSession, Session, after_command, glances_of, moments_of, stops_command, text_of_command}
 use Rattle.m88_cli.specs.Inside.Fronts.{IsSessionFront}
 use Rattle.m88_cli.specs.Inside.SessionKept.{Broke, Carried, Carries, StandsAt, Went}
 use Rattle.m88_cli.specs.declared.commands.monitor.Monitor.{Monitor}
 use Rattle.m88_cli.specs.declared.script.MonitorCommand.{MonitorCommand}
-use Rattle.m88_cli.specs.declared.script.MonitorCommand.TheVariants.{Break}
 
 -- a command that makes no event
 saw_nothing : (c : Course) (s : Session) (command : MonitorCommand) (seen : Option (List Glance)) → Saw seen seen (glances_of c s command 0)
@@ -212,27 +207,3 @@ carry_broke c commands d start i before here after told monitor below carrying b
           (inl (record { events = broke.events; each = broke.each; glances_are = refl }))),
       saw_then before here after carrying.glances shown carrying.saw broke.saw,
     )
-
--- where a session begins
-pub stands_first : (p : Program) (s : Settings) (board : BoardView) (monitor : Monitor) →
-    IsAt p s.absent opening_moment board → board.limit ≡ s.limit → monitor.walk.board.now ≡ board →
-    monitor.walk.schedule.now ≡ s.schedule → monitor.walk.taken ≡ 0 → monitor.breakpoints.items ≡ [] →
-    StandsAt (course_of p s) opening_session monitor
-stands_first p s board monitor at limit same schedule taken none = record {
-  schedule = schedule;
-  limit = ap (λ (b : BoardView). b.limit) same ∙ limit;
-  at = subst (λ (b : BoardView). IsAt p s.absent opening_moment b) (sym same) at;
-  taken = taken;
-  breakpoints = none;
-}
-
--- a breakpoint is set
-pub set_stands : (c : Course) (s : Session) (a : ℕ) (old new : Monitor) → StandsAt c s old → new.walk ≡ old.walk →
-    new.breakpoints.items ≡ old.breakpoints.items ++ word_address a ∷ [] → StandsAt c (after_command c s (Break a) 0) new
-set_stands c s a old new stands walk set = record {
-  schedule = ap (λ (w : Walk). w.schedule.now) walk ∙ stands.schedule;
-  limit = ap (λ (w : Walk). w.board.now.limit) walk ∙ stands.limit;
-  at = subst (λ (w : Walk). IsAt c.program c.named s.moment w.board.now) (sym walk) stands.at;
-  taken = ap (λ (w : Walk). w.taken) walk ∙ stands.taken;
-  breakpoints = set ∙ ap (λ (xs : List ℕ). xs ++ word_address a ∷ []) stands.breakpoints;
-}

@@ -37,6 +37,17 @@ first_of f n holds = elim (first_below f (suc n)) [
   | inr none ↦ absurd (let not_yet = none n (omega arith) in cc)
 ]
 
+-- what gets lighter until something holds comes to where it does
+lighter_within : (f : ℕ → Bool) (w : ℕ → ℕ) → ((k : ℕ) → f k ≡ false → w (suc k) < w k) → (b k : ℕ) → w k < b
+    → (n : ℕ) × (f n ≡ true)
+lighter_within f w lighter zero k light = absurd (omega (arith, light))
+lighter_within f w lighter (suc b) k light = by_test (f k)
+    (λ here. (k, here))
+    (λ goes. let less = lighter k goes in lighter_within f w lighter b (suc k) (omega (arith, light, less)))
+
+comes_to : (f : ℕ → Bool) (w : ℕ → ℕ) → ((k : ℕ) → f k ≡ false → w (suc k) < w k) → (n : ℕ) × (f n ≡ true)
+comes_to f w lighter = lighter_within f w lighter (suc (w 0)) 0 (omega arith)
+
 -- events before which a condition didn't hold are no more than those after which it holds
 pub no_later : (f : ℕ → Bool) (k n : ℕ) → NotBefore f k → f n ≡ true → k ≤ n
 no_later f k n before here = by_test (nat_lt n k)
@@ -76,47 +87,33 @@ module _ (p : Program) (named : ℕ → Bool) (limit : ℕ) (is : IsProgram p) w
 
   module _ (schedule : List Letter) (taken : ℕ) (m : Moment) (sound : IsSound p limit m) where
     -- along the letters of a run each event lessens the weight
-    over_within : (w : ℕ) (letters : ℕ → Letter) → ((k : ℕ) → letters k ≡ letter_at schedule (taken + k)) → (k : ℕ)
-        → weight schedule limit (taken + k) (local_at p named (moment_along p named limit letters m k)) < w
-        → (n : ℕ) × (is_over p limit (moment_along p named limit letters m n) ≡ true)
-    over_within zero letters are k light = absurd (omega (arith, light))
-    over_within (suc w) letters are k light =
-        let now = moment_along p named limit letters m k in
-        let here = sound_along letters m k sound in
-        by_test (is_over p limit now)
-        (λ over. (k, over))
-        (λ goes.
-        let less = lessens p limit schedule (taken + k) (local_at p named now) is (subst (λ n. n ≤ limit) (sym (seen_retired p named now)) here.1)
-        (same_over p named limit now here.0 ∙ goes) in
-        let next : move p limit (letter_at schedule (taken + k)) (local_at p named now)
-        ≡ local_at p named (moment_along p named limit letters m (suc k)) =
-        ap (λ letter. move p limit letter (local_at p named now)) (sym (are k)) ∙ next_seen letters m k sound in
-        let place : taken + k + 1 ≡ taken + suc k = omega arith in
-        let same = ap₂ (weight schedule limit) place next in
-        over_within w letters are (suc k) (omega (arith, light, less, same)))
-
     pub walk_ends : (letters : ℕ → Letter) → ((k : ℕ) → letters k ≡ letter_at schedule (taken + k))
         → (n : ℕ) × (is_over p limit (moment_along p named limit letters m n) ≡ true)
     walk_ends letters are =
-        over_within (suc (weight schedule limit (taken + 0) (local_at p named (moment_along p named limit letters m 0)))) letters are 0 (omega arith)
+        let at = moment_along p named limit letters m in
+        comes_to (λ k. is_over p limit (at k)) (λ k. weight schedule limit (taken + k) (local_at p named (at k))) (λ k goes.
+        let here = sound_along letters m k sound in
+        let less = lessens p limit schedule (taken + k) (local_at p named (at k)) is
+        (subst (λ n. n ≤ limit) (sym (seen_retired p named (at k))) here.1) (same_over p named limit (at k) here.0 ∙ goes) in
+        let next : move p limit (letter_at schedule (taken + k)) (local_at p named (at k)) ≡ local_at p named (at (suc k)) =
+        ap (λ letter. move p limit letter (local_at p named (at k))) (sym (are k)) ∙ next_seen letters m k sound in
+        let place : taken + k + 1 ≡ taken + suc k = omega arith in
+        let same = ap₂ (weight schedule limit) place next in
+        omega (arith, less, same))
 
     -- and so does each answer while something is pending
-    drained_within : (w k : ℕ) → weight schedule limit taken (local_at p named (answered_after p named limit m k)) < w
-        → (n : ℕ) × (is_drained p (answered_after p named limit m n) ≡ true)
-    drained_within zero k light = absurd (omega (arith, light))
-    drained_within (suc w) k light =
-        let now = answered_after p named limit m k in
-        let here = sound_along (λ j. Answer) m k sound in
-        let seen = drained_seen p named now here.0 in
-        by_test (is_pending (local_at p named now).pending)
-        (λ some.
-        let less = answered_lessens p limit schedule taken (local_at p named now) some in
-        let same = ap (weight schedule limit taken) (next_seen (λ j. Answer) m k sound) in
-        drained_within w (suc k) (omega (arith, light, less, same)))
-        (λ none. (k, sym seen ∙ ap not none))
-
     pub draining_ends : (n : ℕ) × (is_drained p (answered_after p named limit m n) ≡ true)
-    draining_ends = drained_within (suc (weight schedule limit taken (local_at p named (answered_after p named limit m 0)))) 0 (omega arith)
+    draining_ends =
+        let at = answered_after p named limit m in
+        comes_to (λ k. is_drained p (at k)) (λ k. weight schedule limit taken (local_at p named (at k))) (λ k goes.
+        by_test (is_pending (local_at p named (at k)).pending)
+        (λ some.
+        let less = answered_lessens p limit schedule taken (local_at p named (at k)) some in
+        let same = ap (weight schedule limit taken) (next_seen (λ j. Answer) m k sound) in
+        omega (arith, less, same))
+        (λ none.
+        let seen = drained_seen p named (at k) (sound_along (λ j. Answer) m k sound).0 in
+        let drained : is_drained p (at k) ≡ true = sym seen ∙ ap not none in absurd cc))
 
 -- the glances of more moments go on from those of fewer
 pub glances_go_on : (p : Program) (moments : ℕ → Moment) (k n : ℕ) → k ≤ n

@@ -3,219 +3,160 @@ use Rattle.std.specs.Prelude.{ℕ, Bool, true, false, not, List, [], ◌∷◌, 
 use Rattle.std.proofs.Common.{Bor, add-one, arith, refl, sym, ap, ap₂, ◌∙◌, subst}
 use Rattle.std.proofs.lemmas.Bool.{le-ltb, lt-ltb}
 use Rattle.m88_event.specs.Letters.{letter_at}
-use Rattle.m88_event.specs.Run.{IsDrain, IsDraining, IsFirst, NotBefore, answered_after, letters_from, moment_along}
+use Rattle.m88_event.specs.Run.{IsFirst, NotBefore, letters_from, moment_along}
 use Rattle.m88_event.specs.Timeline.{Moment, after_letter, is_over}
 use Rattle.m88_event.specs.declared.letter.Letter.{Letter}
 use Rattle.m88_isa.specs.Machine.{Program}
 use Rattle.m88_board.proofs.Laws.{not_yet, saw_none, saw_then}
-use Rattle.m88_board.specs.Board.{BoardView}
 use Rattle.m88_board.specs.Glances.{Saw, glance_at, glances_along}
 use Rattle.m88_board.specs.Calls.{StaysOnRun}
 use Rattle.m88_board.specs.Moves.{IsAlong, IsAt, IsStep}
-use Rattle.m88_board.specs.Walks.{is_halt, is_made, moments_from, stops_after}
+use Rattle.m88_board.specs.Walks.{is_made, moments_from, stops_after}
 use Rattle.m88_board.specs.declared.glance.Glance.{Glance}
 use Rattle.m88_cli.specs.Inside.Fronts.{MakesEach}
 use Rattle.m88_cli.specs.Answer.Session.{Course, Session, moment_on, session_on, stops_command, stops_on}
-use Rattle.m88_cli.specs.Inside.SessionKept.{Broke, StandsAt, Went}
+use Rattle.m88_cli.specs.Inside.SessionKept.{StandsAt}
 use Rattle.m88_cli.specs.declared.commands.monitor.Monitor.{Monitor}
 use Rattle.m88_cli.specs.declared.script.MonitorCommand.{MonitorCommand}
-use Rattle.m88_cli.specs.declared.script.MonitorCommand.TheVariants.{Drain, Go, Step}
 
--- what is told of a walk by where its monitor stands is told of it by where the session stands
-as_session : (c : Course) (s : Session) (m : Monitor) (P : ℕ → List Letter → ℕ → Type 0) → StandsAt c s m
-    → P m.walk.board.now.limit m.walk.schedule.now m.walk.taken → P c.limit c.schedule s.taken
-as_session c s m P stands h =
-    subst (P c.limit c.schedule) stands.taken
-    (subst (λ ls. P c.limit ls m.walk.taken) stands.schedule (subst (λ n. P n m.walk.schedule.now m.walk.taken) stands.limit h))
-
--- a walk made some events before it was to stop, or all of them
-abbrev pub BeforeFrom : Course → Session → (Program → ℕ → Moment → Bool) → Option (List Glance) → Option (List Glance)
-    → ℕ → List Letter → ℕ → Type 0
-BeforeFrom c s enough before after limit schedule taken =
-    (k : ℕ) × NotBefore (stops_after enough c.program c.named limit schedule taken s.moment) k
-    × Saw before after (glances_along c.program (moments_from c.program c.named limit schedule taken s.moment) k)
-
-abbrev pub WalkedFrom : Course → Session → (Program → ℕ → Moment → Bool) → Option (List Glance) → Option (List Glance) → Monitor
-    → ℕ → List Letter → ℕ → Type 0
-WalkedFrom c s enough before after new limit schedule taken =
-    (k : ℕ) × IsFirst (stops_after enough c.program c.named limit schedule taken s.moment) k
-    × IsAlong c.program c.named (moments_from c.program c.named limit schedule taken s.moment) k before after new.walk.board.now
-    × (new.walk.taken ≡ taken + k)
-
-pub walk_before : (c : Course) (s : Session) (enough : Program → ℕ → Moment → Bool) (m : Monitor) (before after : Option (List Glance))
-    → StandsAt c s m → BeforeFrom c s enough before after m.walk.board.now.limit m.walk.schedule.now m.walk.taken
-    → BeforeFrom c s enough before after c.limit c.schedule s.taken
-walk_before c s enough m before after stands made = as_session c s m (BeforeFrom c s enough before after) stands made
-
--- so the session stands where the walk stopped
-record Walked (c : Course) (s : Session) (enough : Program → ℕ → Moment → Bool) (before after : Option (List Glance)) (new : Monitor)
-    : Type 0 where
-  events : ℕ
-  first : IsFirst (stops_on c s enough) events
-  saw : Saw before after (glances_along c.program (moment_on c s) events)
-  stands : StandsAt c (session_on c s events) new
-
-walked_on : (c : Course) (s : Session) (enough : Program → ℕ → Moment → Bool) (old new : Monitor) (before after : Option (List Glance))
-    → StandsAt c s old → new.breakpoints.items ≡ old.breakpoints.items → StaysOnRun old.walk new.walk
-    → WalkedFrom c s enough before after new old.walk.board.now.limit old.walk.schedule.now old.walk.taken
-    → Walked c s enough before after new
-unfolding session_on
-walked_on c s enough old new before after stands breakpoints stays walked =
-    let own = as_session c s old (WalkedFrom c s enough before after new) stands walked in
-    record {
-      events = own.0;
-      first = own.1;
-      saw = own.2.saw;
-      stands = record {
-        schedule = ap (λ (x : Bor (List Letter)). x.now) stays.schedule ∙ stands.schedule;
-        limit = stays.same.limit ∙ stands.limit;
-        at = own.2.at;
-        taken = own.3;
-        breakpoints = breakpoints ∙ stands.breakpoints;
-      };
-    }
-
--- `step` and `go` are carried out by such walks
-pub step_went : (c : Course) (s : Session) (most : ℕ) (old new : Monitor) (before after : Option (List Glance))
-    → StandsAt c s old → new.breakpoints.items ≡ old.breakpoints.items → StaysOnRun old.walk new.walk
-    → WalkedFrom c s (is_made most) before after new old.walk.board.now.limit old.walk.schedule.now old.walk.taken
-    → Went c s (Step most) before after new
-step_went c s most old new before after stands breakpoints stays walked =
-    let w = walked_on c s (is_made most) old new before after stands breakpoints stays walked in
-    record { events = w.events; makes = w.first; stands = w.stands; saw = w.saw }
-
-pub go_went : (c : Course) (s : Session) (addresses : List ℕ) (old new : Monitor) (before after : Option (List Glance))
-    → StandsAt c s old → addresses ≡ old.breakpoints.items → new.breakpoints.items ≡ old.breakpoints.items
-    → StaysOnRun old.walk new.walk
-    → WalkedFrom c s (is_halt addresses) before after new old.walk.board.now.limit old.walk.schedule.now old.walk.taken
-    → Went c s Go before after new
-go_went c s addresses old new before after stands breaks breakpoints stays walked =
-    let w = walked_on c s (is_halt addresses) old new before after stands breakpoints stays walked in
-    record {
-      events = w.events;
-      makes = subst (λ (xs : List ℕ). IsFirst (stops_on c s (is_halt xs)) w.events) (breaks ∙ stands.breakpoints) w.first;
-      stands = w.stands;
-      saw = w.saw;
-    }
-
--- and `drain` by its events
-pub drain_went : (c : Course) (s : Session) (old new : Monitor) (before after : Option (List Glance)) → StandsAt c s old →
-    new.breakpoints.items ≡ old.breakpoints.items → StaysOnRun old.walk new.walk → new.walk.taken ≡ old.walk.taken →
-    (k : ℕ) × IsDrain c.program c.named old.walk.board.now.limit s.moment k
-    × IsAlong c.program c.named (answered_after c.program c.named old.walk.board.now.limit s.moment) k before after new.walk.board.now →
-    Went c s Drain before after new
-drain_went c s old new before after stands breakpoints stays taken drained =
-    let own = as_session c s old (λ limit schedule taken. (k : ℕ) × IsDrain c.program c.named limit s.moment k
-    × IsAlong c.program c.named (answered_after c.program c.named limit s.moment) k before after new.walk.board.now) stands drained in
-    record {
-      events = own.0;
-      makes = own.1;
-      stands = record {
-        schedule = ap (λ (x : Bor (List Letter)). x.now) stays.schedule ∙ stands.schedule;
-        limit = stays.same.limit ∙ stands.limit;
-        at = own.2.at;
-        taken = taken ∙ stands.taken;
-        breakpoints = breakpoints ∙ stands.breakpoints;
-      };
-      saw = own.2.saw;
-    }
-
-pub drain_broke : (c : Course) (s : Session) (old : Monitor) (board : BoardView) (before after : Option (List Glance)) → StandsAt c s old →
-    (k : ℕ) × IsDraining c.program c.named old.walk.board.now.limit s.moment k
-    × IsAlong c.program c.named (answered_after c.program c.named old.walk.board.now.limit s.moment) k before after board →
-    Broke c s Drain before after
-drain_broke c s old board before after stands drained =
-    let own = as_session c s old (λ limit schedule taken. (k : ℕ) × IsDraining c.program c.named limit s.moment k
-    × IsAlong c.program c.named (answered_after c.program c.named limit s.moment) k before after board) stands drained in
-    record { events = own.0; each = own.1; saw = own.2.saw }
-
--- what holds after some events of the run's letters
-pub record IsAlongOn (c : Course) (s : Session) (k : ℕ) (before after : Option (List Glance)) (monitor : Monitor) : Type 0 where
-  pub stands : StandsAt c (session_on c s k) monitor
-  pub saw : Saw before after (glances_along c.program (moment_on c s) k)
+-- a test of a walk that stops
+pub or_true : (a b : Bool) → b ≡ true → (a || b) ≡ true
+or_true true b h = refl
+or_true false b h = h
 
 -- a session by how many letters were taken
 with_taken : Session → ℕ → Session
 with_taken s n = record s { taken = n }
 
-same_session : (c : Course) (s : Session) → session_on c s 0 ≡ s
-unfolding session_on moment_along with_taken
-same_session c s = let none : s.taken + 0 ≡ s.taken = omega arith in ap (with_taken s) none
+module _ (c : Course) (s : Session) where
+  -- what is told of a walk by where its monitor stands is told of it by where the session stands
+  pub as_session : (m : Monitor) (P : ℕ → List Letter → ℕ → Type 0) → StandsAt c s m
+      → P m.walk.board.now.limit m.walk.schedule.now m.walk.taken → P c.limit c.schedule s.taken
+  as_session m P stands h =
+      subst (P c.limit c.schedule) stands.taken
+      (subst (λ ls. P c.limit ls m.walk.taken) stands.schedule
+      (subst (λ n. P n m.walk.schedule.now m.walk.taken) stands.limit h))
 
--- at first
-pub along_start : (c : Course) (s : Session) (seen : Option (List Glance)) (monitor : Monitor) → StandsAt c s monitor →
-    IsAlongOn c s 0 seen seen monitor
-unfolding glances_along
-along_start c s seen monitor stands = record {
-  stands = subst (λ t. StandsAt c t monitor) (sym (same_session c s)) stands;
-  saw = saw_none seen;
-}
+  -- a walk made some events before it was to stop, or all of them
+  abbrev pub BeforeFrom : (Program → ℕ → Moment → Bool) → (before after : Option (List Glance))
+      → ℕ → List Letter → ℕ → Type 0
+  BeforeFrom enough before after limit schedule taken =
+      (k : ℕ) × NotBefore (stops_after enough c.program c.named limit schedule taken s.moment) k
+      × Saw before after (glances_along c.program (moments_from c.program c.named limit schedule taken s.moment) k)
 
--- and after one more
-pub along_next : (c : Course) (s : Session) (k : ℕ) (before here after : Option (List Glance)) (old new : Monitor) →
-    IsAlongOn c s k before here old →
-    IsStep c.program c.named (letter_at old.walk.schedule.now old.walk.taken) (moment_on c s k) here after old.walk.board.now
-    new.walk.board.now → StaysOnRun old.walk new.walk → new.walk.taken ≡ old.walk.taken + 1 →
-    new.breakpoints.items ≡ old.breakpoints.items → IsAlongOn c s (k + 1) before after new
-unfolding session_on moment_along glances_along
-along_next c s k before here after old new along step stays taken breakpoints =
-    let stands = along.stands in
-    let last : Moment = moment_on c s k in
-    let letter : letter_at old.walk.schedule.now old.walk.taken ≡ letters_from c.schedule s.taken k =
-    ap₂ letter_at stands.schedule stands.taken in
-    let next : after_letter c.program c.named old.walk.board.now.limit (letter_at old.walk.schedule.now old.walk.taken) last
-    ≡ after_letter c.program c.named c.limit (letters_from c.schedule s.taken k) last =
-    ap₂ (λ (n : ℕ) (l : Letter). after_letter c.program c.named n l last) stands.limit letter in
-    let place = stands.taken in
-    subst (λ n. IsAlongOn c s n before after new) (sym (add-one k)) (record {
-      stands = record {
-        schedule = ap (λ (x : Bor (List Letter)). x.now) stays.schedule ∙ stands.schedule;
-        limit = stays.same.limit ∙ stands.limit;
-        at = subst (λ (m : Moment). IsAt c.program c.named m new.walk.board.now) next step.at;
-        taken = omega (arith, taken, place);
-        breakpoints = breakpoints ∙ stands.breakpoints;
-      };
-      saw = saw_then before here after (glances_along c.program (moment_on c s) k)
-          (glance_at c.program (after_letter c.program c.named c.limit (letters_from c.schedule s.taken k) last) ∷ []) along.saw
-          (subst (λ (m : Moment). Saw here after (glance_at c.program m ∷ [])) next step.saw);
-    })
+  abbrev pub WalkedFrom : (Program → ℕ → Moment → Bool) → (before after : Option (List Glance)) → Monitor
+      → ℕ → List Letter → ℕ → Type 0
+  WalkedFrom enough before after new limit schedule taken =
+      (k : ℕ) × IsFirst (stops_after enough c.program c.named limit schedule taken s.moment) k
+      × IsAlong c.program c.named (moments_from c.program c.named limit schedule taken s.moment) k before after
+      new.walk.board.now
+      × (new.walk.taken ≡ taken + k)
 
--- the board stands at the session's moment
-pub at_on : (c : Course) (s : Session) (k : ℕ) (monitor : Monitor) → StandsAt c (session_on c s k) monitor →
-    IsAt c.program c.named (moment_on c s k) monitor.walk.board.now
-unfolding session_on
-at_on c s k monitor stands = stands.at
+  -- so the session stands where the walk stopped
+  pub record Walked (enough : Program → ℕ → Moment → Bool) (before after : Option (List Glance)) (new : Monitor)
+      : Type 0 where
+    pub events : ℕ
+    pub first : IsFirst (stops_on c s enough) events
+    pub saw : Saw before after (glances_along c.program (moment_on c s) events)
+    pub stands : StandsAt c (session_on c s events) new
 
--- the run is over where the board says so
-pub over_on : (c : Course) (s : Session) (k : ℕ) (monitor : Monitor) (result : Bool) →
-    StandsAt c (session_on c s k) monitor →
-    ((p : Program) (named : ℕ → Bool) (m : Moment) → IsAt p named m monitor.walk.board.now
-    → result ≡ is_over p monitor.walk.board.now.limit m) → is_over c.program c.limit (moment_on c s k) ≡ result
-unfolding session_on
-over_on c s k monitor result stands says =
-    ap (λ n. is_over c.program n (moment_on c s k)) (sym stands.limit) ∙ sym (says c.program c.named (moment_on c s k) stands.at)
+  pub walked_on : (enough : Program → ℕ → Moment → Bool) (old new : Monitor) (before after : Option (List Glance))
+      → StandsAt c s old → new.breakpoints.items ≡ old.breakpoints.items → StaysOnRun old.walk new.walk
+      → WalkedFrom enough before after new old.walk.board.now.limit old.walk.schedule.now old.walk.taken
+      → Walked enough before after new
+  unfolding session_on
+  walked_on enough old new before after stands breakpoints stays walked =
+      let own = as_session old (WalkedFrom enough before after new) stands walked in
+      record {
+        events = own.0;
+        first = own.1;
+        saw = own.2.saw;
+        stands = record {
+          schedule = ap (λ (x : Bor (List Letter)). x.now) stays.schedule ∙ stands.schedule;
+          limit = stays.same.limit ∙ stands.limit;
+          at = own.2.at;
+          taken = own.3;
+          breakpoints = breakpoints ∙ stands.breakpoints;
+        };
+      }
 
--- one event more is wanted before all are made, where the run isn't over; and none else
-pub wants_more : (c : Course) (s : Session) (most k : ℕ) → k < most → is_over c.program c.limit (moment_on c s k) ≡ false →
-    stops_on c s (is_made most) k ≡ false
-wants_more c s most k h goes = ap₂ (λ a b. not a || b) (lt-ltb k most h) goes
+  -- what holds after some events of the run's letters
+  pub record IsAlongOn (k : ℕ) (before after : Option (List Glance)) (monitor : Monitor) : Type 0 where
+    pub stands : StandsAt c (session_on c s k) monitor
+    pub saw : Saw before after (glances_along c.program (moment_on c s) k)
 
-any_true : (a : Bool) → (a || true) ≡ true
-any_true true = refl
-any_true false = refl
+  same_session : session_on c s 0 ≡ s
+  unfolding session_on moment_along with_taken
+  same_session = let none : s.taken + 0 ≡ s.taken = omega arith in ap (with_taken s) none
 
-pub wants_none : (c : Course) (s : Session) (most k : ℕ) → is_over c.program c.limit (moment_on c s k) ≡ true →
-    stops_on c s (is_made most) k ≡ true
-wants_none c s most k over = ap (λ b. not (nat_lt k most) || b) over ∙ any_true (not (nat_lt k most))
+  -- at first
+  pub along_start : (seen : Option (List Glance)) (monitor : Monitor) → StandsAt c s monitor → IsAlongOn 0 seen seen monitor
+  unfolding glances_along
+  along_start seen monitor stands = record {
+    stands = subst (λ t. StandsAt c t monitor) (sym same_session) stands;
+    saw = saw_none seen;
+  }
 
-pub made_all : (c : Course) (s : Session) (most k : ℕ) → most ≤ k → stops_on c s (is_made most) k ≡ true
-made_all c s most k h = ap (λ a. not a || is_over c.program c.limit (moment_on c s k)) (le-ltb k most h)
+  -- and after one more
+  pub along_next : (k : ℕ) (before here after : Option (List Glance)) (old new : Monitor) → IsAlongOn k before here old
+      → IsStep c.program c.named (letter_at old.walk.schedule.now old.walk.taken) (moment_on c s k) here after
+      old.walk.board.now new.walk.board.now → StaysOnRun old.walk new.walk → new.walk.taken ≡ old.walk.taken + 1
+      → new.breakpoints.items ≡ old.breakpoints.items → IsAlongOn (k + 1) before after new
+  unfolding session_on moment_along glances_along
+  along_next k before here after old new along step stays taken breakpoints =
+      let stands = along.stands in
+      let last : Moment = moment_on c s k in
+      let letter : letter_at old.walk.schedule.now old.walk.taken ≡ letters_from c.schedule s.taken k =
+      ap₂ letter_at stands.schedule stands.taken in
+      let next : after_letter c.program c.named old.walk.board.now.limit (letter_at old.walk.schedule.now old.walk.taken) last
+      ≡ after_letter c.program c.named c.limit (letters_from c.schedule s.taken k) last =
+      ap₂ (λ (n : ℕ) (l : Letter). after_letter c.program c.named n l last) stands.limit letter in
+      let place = stands.taken in
+      subst (λ n. IsAlongOn n before after new) (sym (add-one k)) (record {
+        stands = record {
+          schedule = ap (λ (x : Bor (List Letter)). x.now) stays.schedule ∙ stands.schedule;
+          limit = stays.same.limit ∙ stands.limit;
+          at = subst (λ (m : Moment). IsAt c.program c.named m new.walk.board.now) next step.at;
+          taken = omega (arith, taken, place);
+          breakpoints = breakpoints ∙ stands.breakpoints;
+        };
+        saw = saw_then before here after (glances_along c.program (moment_on c s) k)
+            (glance_at c.program (after_letter c.program c.named c.limit (letters_from c.schedule s.taken k) last) ∷ []) along.saw
+            (subst (λ (m : Moment). Saw here after (glance_at c.program m ∷ [])) next step.saw);
+      })
 
--- a command went on before one event more
-pub each_next : (c : Course) (s : Session) (command : MonitorCommand) (k : ℕ) → MakesEach c s command k →
-    stops_command c s command k ≡ false → MakesEach c s command (k + 1)
-each_next c s command k each more =
-    subst (λ n. MakesEach c s command n) (sym (add-one k)) (not_yet (stops_command c s command) k each more)
+  -- the board stands at the session's moment
+  pub at_on : (k : ℕ) (monitor : Monitor) → StandsAt c (session_on c s k) monitor
+      → IsAt c.program c.named (moment_on c s k) monitor.walk.board.now
+  unfolding session_on
+  at_on k monitor stands = stands.at
 
-pub each_none : (c : Course) (s : Session) (command : MonitorCommand) → MakesEach c s command 0
-each_none c s command = λ k h. absurd (omega (arith, h))
+  -- the run is over where the board says so
+  pub over_on : (k : ℕ) (monitor : Monitor) (result : Bool) → StandsAt c (session_on c s k) monitor
+      → ((p : Program) (named : ℕ → Bool) (m : Moment) → IsAt p named m monitor.walk.board.now
+      → result ≡ is_over p monitor.walk.board.now.limit m) → is_over c.program c.limit (moment_on c s k) ≡ result
+  unfolding session_on
+  over_on k monitor result stands says =
+      ap (λ n. is_over c.program n (moment_on c s k)) (sym stands.limit)
+      ∙ sym (says c.program c.named (moment_on c s k) stands.at)
+
+  -- one event more is wanted before all are made, where the run isn't over; and none else
+  pub wants_more : (most k : ℕ) → k < most → is_over c.program c.limit (moment_on c s k) ≡ false
+      → stops_on c s (is_made most) k ≡ false
+  wants_more most k h goes = ap₂ (λ a b. not a || b) (lt-ltb k most h) goes
+
+  pub wants_none : (most k : ℕ) → is_over c.program c.limit (moment_on c s k) ≡ true
+      → stops_on c s (is_made most) k ≡ true
+  wants_none most k over = or_true (not (nat_lt k most)) _ over
+
+  pub made_all : (most k : ℕ) → most ≤ k → stops_on c s (is_made most) k ≡ true
+  made_all most k h = ap (λ a. not a || is_over c.program c.limit (moment_on c s k)) (le-ltb k most h)
+
+  -- a command went on before one event more
+  pub each_next : (command : MonitorCommand) (k : ℕ) → MakesEach c s command k → stops_command c s command k ≡ false
+      → MakesEach c s command (k + 1)
+  each_next command k each more =
+      subst (λ n. MakesEach c s command n) (sym (add-one k)) (not_yet (stops_command c s command) k each more)
+
+  pub each_none : (command : MonitorCommand) → MakesEach c s command 0
+  each_none command = λ k h. absurd (omega (arith, h))

@@ -21,9 +21,9 @@ are_all base (d ∷ ds) h = ap (λ t. t && are_digits base ds) (lt-ltb (digit_va
 numeral : (base : ℕ) (text : List ℕ) → is_numeral base text ≡ true → IsNumeral base text
 numeral base text e = let k = and_parts (nat_le 1 (length text)) (are_digits base text) e in (leb-true 1 (length text) k.0, all_are base text k.1)
 
--- what is answered of a number is its value
-told : (a b : Bool) (v n : ℕ) → (if a && b then Some v else None) ≡ Some n → (a ≡ true) × (v ≡ n)
-told true true v n e = (refl, cc)
+-- what is answered of a number by two tests is its value
+pub told : (a b : Bool) (v n : ℕ) → (if a && b then Some v else None) ≡ Some n → (a ≡ true) × (b ≡ true) × (v ≡ n)
+told true true v n e = (refl, refl, cc)
 told true false v n e = absurd cc
 told false b v n e = absurd cc
 
@@ -33,7 +33,7 @@ pub short_found : (base most_digits most : ℕ) (text : List ℕ) (o : Option �
 short_found base most_digits most text None short e = tt
 short_found base most_digits most text (Some n) short e =
     let k = told (is_numeral base text) (nat_le (digits_value base text) most) (digits_value base text) n (sym e) in
-    record { numeral = numeral base text k.0; short = short; value = sym k.1 }
+    record { numeral = numeral base text k.0; short = short; value = sym k.2 }
 
 -- and a short one is read
 pub short_told : (base most_digits most n : ℕ) (text : List ℕ) → n ≤ most → IsShortNumber base most_digits text n → number_in base most text ≡ Some n

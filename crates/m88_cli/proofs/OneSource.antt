@@ -1,9 +1,10 @@
 -- An input is accepted by a command or has one refusal, never both.
-use Rattle.std.proofs.Common.{◌≡◌, ℕ, List, ap, inl, inr, refl, sym, ◌∙◌}
+use Rattle.std.proofs.Common.{ℕ, List, ap, inl, inr, refl, sym, ◌∙◌, ◌≡◌, subst}
 use Rattle.std.specs.Prelude.{◌⊎◌}
+use Rattle.m88_asm.proofs.Laws.{one_assembly_verdict, one_linking_verdict, one_program_verdict, one_several_verdict, program_or_refusal, told_once, not_linked, same_program_refusal}
+use Rattle.m88_asm.specs.Sources.{IsProgramSource, IsRefusedProgram}
 use Rattle.m88_base.specs.OneVerdict.{HasOneFaultUnless}
 use Rattle.m88_base.specs.Refusal.{Refusal}
-use Rattle.m88_asm.proofs.Laws.{one_assembly_verdict, one_linking_verdict, one_program_verdict, one_several_verdict, program_or_refusal, told_once}
 use Rattle.m88_srec.proofs.Laws.{one_record_verdict}
 use Rattle.m88_cli.specs.Answer.{Accepts, Refuses}
 use Rattle.m88_cli.specs.Command.{Command, InputKind, no_input, source_to_assemble, source_to_link, object_text, record_text, scripted_source, sources_to_link, traced_source, kind_of}
@@ -12,19 +13,28 @@ use Rattle.m88_cli.specs.Loading.{IsRecords, IsRefusedRecords, srec_refusal}
 use Rattle.m88_cli.specs.Monitoring.{IsMonitorInput, IsRefusedMonitor}
 use Rattle.m88_cli.specs.Sources.{most_sources}
 use Rattle.m88_cli.specs.TracedSources.{IsRefusedTrace}
-use Rattle.m88_cli.proofs.Monitored.{not_accepted, refused_once}
+use Rattle.m88_cli.specs.Script.{ScriptParts, script_refusal}
 use Rattle.m88_cli.proofs.OneScript as scripts
 use Rattle.m88_cli.proofs.TracedInputs as traces
 
--- S-records that are refused are none that are accepted
-not_loaded : (text : List ℕ) (r : Refusal) → IsRecords text → IsRefusedRecords text r → ⊥
-not_loaded text r accepted refused = (one_record_verdict text).not_both accepted.0 refused.fault accepted.1 refused.is_first
+-- an input of `mon` that is refused isn't accepted
+not_accepted : (input : List ℕ) (r : Refusal) → IsMonitorInput input → IsRefusedMonitor input r → ⊥
+not_accepted input r accepted (inl none) = (scripts.one_verdict input).not_both accepted.parts none.line accepted.is_script none.has_none
+not_accepted input r accepted (inr refused) =
+    let same = (scripts.one_verdict input).one_value accepted.parts refused.parts accepted.is_script refused.is_script in
+    not_linked refused.parts.lines refused.parts.source r
+    (subst (λ (s : ScriptParts). IsProgramSource s.source) same accepted.is_program) refused.is_refused
 
--- they have one refusal
-same_records : (text : List ℕ) (r s : Refusal) → IsRefusedRecords text r → IsRefusedRecords text s → r ≡ s
-same_records text r s a b =
-    let fault = (one_record_verdict text).one_fault a.fault b.fault a.is_first b.is_first in
-    a.refusal ∙ ap srec_refusal fault ∙ sym b.refusal
+-- and has one refusal
+refused_once : (input : List ℕ) (r s : Refusal) → IsRefusedMonitor input r → IsRefusedMonitor input s → r ≡ s
+refused_once input r s (inl a) (inl b) =
+    a.refusal ∙ ap script_refusal ((scripts.one_verdict input).one_fault a.line b.line a.has_none b.has_none) ∙ sym b.refusal
+refused_once input r s (inl a) (inr b) = absurd ((scripts.one_verdict input).not_both b.parts a.line b.is_script a.has_none)
+refused_once input r s (inr a) (inl b) = absurd ((scripts.one_verdict input).not_both a.parts b.line a.is_script b.has_none)
+refused_once input r s (inr a) (inr b) =
+    let same = (scripts.one_verdict input).one_value a.parts b.parts a.is_script b.is_script in
+    same_program_refusal b.parts.lines b.parts.source r s
+    (subst (λ (p : ScriptParts). IsRefusedProgram p.lines p.source r) same a.is_refused) b.is_refused
 
 -- S-records are accepted or refused
 records_or_refusal : (text : List ℕ) → IsRecords text ⊎ ((r : Refusal) × IsRefusedRecords text r)
@@ -52,7 +62,11 @@ of_kind no_input input = told_once (IsRefusedAs no_input input) (inl tt) (λ r a
 of_kind source_to_assemble source = one_assembly_verdict 0 source
 of_kind source_to_link source = one_program_verdict 0 source
 of_kind object_text text = one_linking_verdict text
-of_kind record_text text = told_once (IsRefusedRecords text) (records_or_refusal text) (not_loaded text) (same_records text)
+of_kind record_text text = told_once (IsRefusedRecords text) (records_or_refusal text)
+    (λ r accepted refused. (one_record_verdict text).not_both accepted.0 refused.fault accepted.1 refused.is_first)
+    (λ r s a b.
+    let fault = (one_record_verdict text).one_fault a.fault b.fault a.is_first b.is_first in
+    a.refusal ∙ ap srec_refusal fault ∙ sym b.refusal)
 of_kind scripted_source input =
     told_once (IsRefusedMonitor input) (monitor_or_refusal input) (not_accepted input) (refused_once input)
 of_kind sources_to_link input = one_several_verdict most_sources input
@@ -64,6 +78,3 @@ one_verdict command input = of_kind (kind_of command) input
 
 pub refused_not_accepted : (command : Command) (input : List ℕ) (r : Refusal) → Refuses command input r → ¬ Accepts command input
 refused_not_accepted command input r refused = λ accepted. (one_verdict command input).not_both tt r accepted refused
-
-pub one_refusal : (command : Command) (input : List ℕ) (r s : Refusal) → Refuses command input r → Refuses command input s → r ≡ s
-one_refusal command input = (one_verdict command input).one_fault

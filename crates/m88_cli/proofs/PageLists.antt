@@ -75,16 +75,12 @@ list_first text (n ∷ []) (one_number is) = page_first text n is
 list_first text (n ∷ ns) (more_numbers first rest is more e) =
     subst (λ (t : List ℕ). digit_value (get_or t 0 0) < 10) (sym e) (front_first first (comma ∷ rest) (page_first first n is))
 
--- so it is none of the two words
-pub not_none : (text ns : List ℕ) → ArePageNumbers text ns → text ≡ codes "none" → ⊥
-not_none text ns is e =
-    let first : digit_value (get_or text 0 0) ≡ digit_value 110 = ap (λ (t : List ℕ). digit_value (get_or t 0 0)) e in
-    absurd (omega (arith, first, list_first text ns is))
-
-pub not_all : (text ns : List ℕ) → ArePageNumbers text ns → text ≡ codes "all" → ⊥
-not_all text ns is e =
-    let first : digit_value (get_or text 0 0) ≡ digit_value 97 = ap (λ (t : List ℕ). digit_value (get_or t 0 0)) e in
-    absurd (omega (arith, first, list_first text ns is))
+-- so it is no word that begins with another byte
+not_word : (text ns word : List ℕ) → 10 ≤ digit_value (get_or word 0 0) → ArePageNumbers text ns → text ≡ word → ⊥
+not_word text ns word other is e =
+    let first : digit_value (get_or text 0 0) ≡ digit_value (get_or word 0 0) =
+    ap (λ (t : List ℕ). digit_value (get_or t 0 0)) e in
+    absurd (omega (arith, first, other, list_first text ns is))
 
 -- what a list of numbers is whose text has no comma: one number
 pub alone : (text ns : List ℕ) → Lacks comma text → ArePageNumbers text ns → (n : ℕ) × IsPageNumber text n × (ns ≡ n ∷ [])
@@ -173,9 +169,9 @@ none_last text rest sofar ns h none full are few =
 pub only_none : (text : List ℕ) (absent : ℕ → Bool) → text ≡ codes "none" → IsAbsent text absent → no_page ≡ absent
 only_none text absent e (inl h) = sym h.1
 only_none text absent e (inr (inl h)) = absurd (let same = sym e ∙ h.0 in cc)
-only_none text absent e (inr (inr h)) = absurd (not_none text h.0 h.1 e)
+only_none text absent e (inr (inr h)) = absurd (not_word text h.0 (codes "none") (omega arith) h.1 e)
 
 pub only_all : (text : List ℕ) (absent : ℕ → Bool) → text ≡ codes "all" → IsAbsent text absent → every_page ≡ absent
 only_all text absent e (inl h) = absurd (let same = sym e ∙ h.0 in cc)
 only_all text absent e (inr (inl h)) = sym h.1
-only_all text absent e (inr (inr h)) = absurd (not_all text h.0 h.1 e)
+only_all text absent e (inr (inr h)) = absurd (not_word text h.0 (codes "all") (omega arith) h.1 e)

@@ -26,13 +26,10 @@ first_of line = get_or line 0 0
 
 begins : (c : MonitorCommand) (line : List ℕ) → WritesCommand c line → first_of line ≡ letter_of c
 begins (Step n) line h = ap first_of h.line_is
-begins Go line h = ap first_of h
 begins (Break address) line h = ap first_of h.line_is
-begins Regs line h = ap first_of h
-begins Pipe line h = ap first_of h
 begins (Memory address count) line h = ap first_of h.line_is
-begins Drain line h = ap first_of h
 begins (Trace n) line h = ap first_of h.line_is
+begins _ line h = ap first_of h
 
 -- what operands write
 same_count : (most m n : ℕ) (text : List ℕ) → IsCount most text m → IsCount most text n → m ≡ n

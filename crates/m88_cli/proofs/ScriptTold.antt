@@ -1,6 +1,6 @@
 -- Whether a line of a script writes a command can be told.
-use Rattle.std.proofs.Common.{◌≡◌, ℕ, ◌≤◌, List, [], ◌∷◌, ◌++◌, Option, None, Some, Bool, true, false, length, append_assoc, inl, inr, refl, ap, sym, ◌∙◌, subst, arith}
-use Rattle.std.specs.Prelude.{◌⊎◌, ◌&&◌, codes, if◌then◌else◌, nat_le}
+use Rattle.std.proofs.Common.{◌≡◌, ℕ, ◌≤◌, List, [], ◌∷◌, ◌++◌, Option, None, Some, length, append_assoc, inl, inr, refl, ap, sym, ◌∙◌, subst, arith}
+use Rattle.std.specs.Prelude.{◌⊎◌, codes, nat_le}
 use Rattle.std.specs.Str.Parse.{digits_value}
 use Rattle.std.proofs.lemmas.Bool.{cases_eq, leb-true}
 use Rattle.m88_base.proofs.Laws.{at_most, cut_found, same_text, split_first}
@@ -10,7 +10,7 @@ use Rattle.m88_cli.specs.Numbers.{IsShortNumber}
 use Rattle.m88_cli.specs.Script.{AreMemoryOperands, HasOperand, IsCount, WritesAddress, WritesCommand, most_steps, most_words}
 use Rattle.m88_cli.specs.declared.script.MonitorCommand.{MonitorCommand}
 use Rattle.m88_cli.specs.declared.script.MonitorCommand.TheVariants.{Step, Go, Break, Regs, Pipe, Memory, Drain, Trace}
-use Rattle.m88_cli.proofs.Numerals.{short_found, short_told}
+use Rattle.m88_cli.proofs.Numerals.{short_found, short_told, told}
 use Rattle.m88_cli.proofs.ScriptLines.{are_parts, place_has_none, place_is_small, same_operand}
 
 -- something is written, or nothing
@@ -18,11 +18,6 @@ abbrev IsWritten : {A : Type 0} → (A → Type 0) → Type 0
 IsWritten {A = A} Writes = ((a : A) × Writes a) ⊎ ((a : A) → Writes a → ⊥)
 
 -- short numbers up to a greatest
-not_above : (a b : Bool) (v n : ℕ) → (if a && b then Some v else None) ≡ Some n → (b ≡ true) × (v ≡ n)
-not_above true true v n e = (refl, cc)
-not_above true false v n e = absurd cc
-not_above false b v n e = absurd cc
-
 number_told : (base most_digits most : ℕ) (text : List ℕ) → IsWritten (λ n. IsShortNumber base most_digits text n × (n ≤ most))
 number_told base most_digits most text = elim (at_most (length text) most_digits) [
   | inr long ↦ inr (λ n h. long h.0.short)
@@ -33,9 +28,9 @@ number_told base most_digits most text = elim (at_most (length text) most_digits
         → IsWritten (λ n. IsShortNumber base most_digits text n × (n ≤ most))
     by_value short None e = inr (λ n h. let told : None ≡ Some n = e ∙ short_told base most_digits most n text h.1 h.0 in absurd cc)
     by_value short (Some n) e =
-        let k = not_above (is_numeral base text) (nat_le (digits_value base text) most) (digits_value base text) n (sym e) in
-        let small = leb-true (digits_value base text) most k.0 in
-        inl (n, (short_found base most_digits most text (Some n) short e, omega (arith, small, k.1)))
+        let k = told (is_numeral base text) (nat_le (digits_value base text) most) (digits_value base text) n (sym e) in
+        let small = leb-true (digits_value base text) most k.1 in
+        inl (n, (short_found base most_digits most text (Some n) short e, omega (arith, small, k.2)))
 
 count_told : (most : ℕ) (text : List ℕ) → IsWritten (IsCount most text)
 count_told most text = elim (number_told 10 7 most text) [
@@ -103,48 +98,40 @@ named_told name IsSuch told line = elim (behind_told (name ++ codes " ") line) [
       | inl found ↦ inl (found.0, record { operand = text; line_is = e; is_such = found.1 })
     ]
 
--- a command of its own line, or none of those that have operands
-pub command_told : (line : List ℕ) → IsWritten (λ c. WritesCommand c line)
-command_told line = elim (named_told (codes "step") (λ n text. IsCount most_steps text n) (count_told most_steps) line) [
-  | inl step ↦ inl (Step step.0, step.1)
-  | inr no_step ↦ elim (named_told (codes "trace") (λ n text. IsCount most_steps text n) (count_told most_steps) line) [
-    | inl trace ↦ inl (Trace trace.0, trace.1)
-    | inr no_trace ↦ elim (named_told (codes "break") (λ n text. WritesAddress text n) address_told line) [
-      | inl break ↦ inl (Break break.0, break.1)
-      | inr no_break ↦ elim (named_told (codes "mem") (λ (p : ℕ × ℕ) text. AreMemoryOperands text p.0 p.1) operands_told line) [
-        | inl memory ↦ inl (Memory memory.0.0 memory.0.1, memory.1)
-        | inr no_memory ↦ bare no_step no_trace no_break no_memory
-      ]
-    ]
-  ]
-]
-  where
-    bare : ((n : ℕ) → HasOperand (codes "step") (λ text. IsCount most_steps text n) line → ⊥)
-        → ((n : ℕ) → HasOperand (codes "trace") (λ text. IsCount most_steps text n) line → ⊥)
-        → ((n : ℕ) → HasOperand (codes "break") (λ text. WritesAddress text n) line → ⊥)
-        → ((p : ℕ × ℕ) → HasOperand (codes "mem") (λ text. AreMemoryOperands text p.0 p.1) line → ⊥)
-        → IsWritten (λ c. WritesCommand c line)
-    bare no_step no_trace no_break no_memory = elim (same_text line (codes "go")) [
-      | inl is ↦ inl (Go, is)
-      | inr no_go ↦ elim (same_text line (codes "regs")) [
-        | inl is ↦ inl (Regs, is)
-        | inr no_regs ↦ elim (same_text line (codes "pipe")) [
-          | inl is ↦ inl (Pipe, is)
-          | inr no_pipe ↦ elim (same_text line (codes "drain")) [
-            | inl is ↦ inl (Drain, is)
-            | inr no_drain ↦ inr (none no_go no_regs no_pipe no_drain)
-          ]
-        ]
-      ]
-    ]
-      where
-        none : (line ≡ codes "go" → ⊥) → (line ≡ codes "regs" → ⊥) → (line ≡ codes "pipe" → ⊥) → (line ≡ codes "drain" → ⊥)
-            → (c : MonitorCommand) → WritesCommand c line → ⊥
-        none no_go no_regs no_pipe no_drain (Step n) h = no_step n h
-        none no_go no_regs no_pipe no_drain Go h = no_go h
-        none no_go no_regs no_pipe no_drain (Break address) h = no_break address h
-        none no_go no_regs no_pipe no_drain Regs h = no_regs h
-        none no_go no_regs no_pipe no_drain Pipe h = no_pipe h
-        none no_go no_regs no_pipe no_drain (Memory address count) h = no_memory (address, count) h
-        none no_go no_regs no_pipe no_drain Drain h = no_drain h
-        none no_go no_regs no_pipe no_drain (Trace n) h = no_trace n h
+module _ (line : List ℕ) where
+  -- one command, or else another
+  or_else : {Y N : Type 0} → Y ⊎ N → (Y → (c : MonitorCommand) × WritesCommand c line)
+      → (N → IsWritten (λ c. WritesCommand c line)) → IsWritten (λ c. WritesCommand c line)
+  or_else (inl is) found other = inl (found is)
+  or_else (inr none) found other = other none
+
+  -- no command, where none of each kind is written
+  none_written : ((n : ℕ) → WritesCommand (Step n) line → ⊥) → ((n : ℕ) → WritesCommand (Trace n) line → ⊥)
+      → ((address : ℕ) → WritesCommand (Break address) line → ⊥) → ((p : ℕ × ℕ) → WritesCommand (Memory p.0 p.1) line → ⊥)
+      → (line ≡ codes "go" → ⊥) → (line ≡ codes "regs" → ⊥) → (line ≡ codes "pipe" → ⊥) → (line ≡ codes "drain" → ⊥)
+      → (c : MonitorCommand) → WritesCommand c line → ⊥
+  none_written step trace break memory go regs pipe drain (Step n) h = step n h
+  none_written step trace break memory go regs pipe drain (Trace n) h = trace n h
+  none_written step trace break memory go regs pipe drain (Break address) h = break address h
+  none_written step trace break memory go regs pipe drain (Memory address count) h = memory (address, count) h
+  none_written step trace break memory go regs pipe drain Go h = go h
+  none_written step trace break memory go regs pipe drain Regs h = regs h
+  none_written step trace break memory go regs pipe drain Pipe h = pipe h
+  none_written step trace break memory go regs pipe drain Drain h = drain h
+
+  -- a command with an operand, or one of its own line
+  pub command_told : IsWritten (λ c. WritesCommand c line)
+  command_told =
+      or_else (named_told (codes "step") (λ n text. IsCount most_steps text n) (count_told most_steps) line)
+      (λ h. (Step h.0, h.1)) (λ step.
+      or_else (named_told (codes "trace") (λ n text. IsCount most_steps text n) (count_told most_steps) line)
+      (λ h. (Trace h.0, h.1)) (λ trace.
+      or_else (named_told (codes "break") (λ n text. WritesAddress text n) address_told line)
+      (λ h. (Break h.0, h.1)) (λ break.
+      or_else (named_told (codes "mem") (λ (p : ℕ × ℕ) text. AreMemoryOperands text p.0 p.1) operands_told line)
+      (λ h. (Memory h.0.0 h.0.1, h.1)) (λ memory.
+      or_else (same_text line (codes "go")) (λ is. (Go, is)) (λ go.
+      or_else (same_text line (codes "regs")) (λ is. (Regs, is)) (λ regs.
+      or_else (same_text line (codes "pipe")) (λ is. (Pipe, is)) (λ pipe.
+      or_else (same_text line (codes "drain")) (λ is. (Drain, is)) (λ drain.
+      inr (none_written step trace break memory go regs pipe drain)))))))))

@@ -1,5 +1,5 @@
 -- Every command of a session makes its events, so a front of a session goes on to its end.
-use Rattle.std.specs.Prelude.{ℕ, Bool, true, false, List, [], ◌∷◌, ◌++◌, ◌≡◌, ◌||◌}
+use Rattle.std.specs.Prelude.{ℕ, Bool, true, List, [], ◌∷◌, ◌++◌, ◌≡◌}
 use Rattle.std.proofs.Common.{append_assoc, append-nil, inl, inr, refl, sym, ap, ◌∙◌}
 use Rattle.m88_event.specs.Run.{letters_from}
 use Rattle.m88_event.specs.Timeline.{Moment}
@@ -8,14 +8,11 @@ use Rattle.m88_isa.specs.Machine.{IsProgram, Program}
 use Rattle.m88_board.specs.Walks.{is_halt, is_made}
 use Rattle.m88_board.specs.declared.glance.Glance.{Glance}
 use Rattle.m88_cli.proofs.Ends.{IsSound, draining_ends, first_of, glances_go_on, no_later, sound_along, walk_ends}
+use Rattle.m88_cli.proofs.MonitorWalks.{or_true}
 use Rattle.m88_cli.specs.Inside.Fronts.{IsSessionFront}
 use Rattle.m88_cli.specs.Answer.Session.{Course, IsSession, Makes, Session, after_command, glances_of, moment_on, moments_of, session_on, stops_command, stops_on, text_of_command}
 use Rattle.m88_cli.specs.declared.script.MonitorCommand.{MonitorCommand}
-use Rattle.m88_cli.specs.declared.script.MonitorCommand.TheVariants.{Step, Go, Break, Regs, Pipe, Memory, Drain, Trace}
-
-or_true : (a b : Bool) → b ≡ true → (a || b) ≡ true
-or_true true b h = refl
-or_true false b h = h
+use Rattle.m88_cli.specs.declared.script.MonitorCommand.TheVariants.{Step, Go, Drain, Trace}
 
 module _ (c : Course) (is : IsProgram c.program) where
   abbrev pub StandsSound : Session → Type 0
@@ -32,10 +29,7 @@ module _ (c : Course) (is : IsProgram c.program) where
   makes s sound (Trace most) = let n = stops s sound (is_made most) in first_of _ n.0 n.1
   makes s sound Go = let n = stops s sound (is_halt s.breakpoints) in first_of _ n.0 n.1
   makes s sound Drain = let n = draining_ends c.program c.named c.limit is c.schedule s.taken s.moment sound in first_of _ n.0 n.1
-  makes s sound (Break a) = first_of _ 0 refl
-  makes s sound Regs = first_of _ 0 refl
-  makes s sound Pipe = first_of _ 0 refl
-  makes s sound (Memory a n) = first_of _ 0 refl
+  makes s sound _ = first_of _ 0 refl
 
   walked : (s : Session) → StandsSound s → (n : ℕ) → StandsSound (session_on c s n)
   unfolding session_on
@@ -46,10 +40,7 @@ module _ (c : Course) (is : IsProgram c.program) where
   stays_sound s sound (Trace most) n = walked s sound n
   stays_sound s sound Go n = walked s sound n
   stays_sound s sound Drain n = sound_along c.program c.named c.limit is (λ k. Answer) s.moment n sound
-  stays_sound s sound (Break a) n = sound
-  stays_sound s sound Regs n = sound
-  stays_sound s sound Pipe n = sound
-  stays_sound s sound (Memory a k) n = sound
+  stays_sound s sound _ n = sound
 
   -- so commands have a session
   session_ends : (commands : List MonitorCommand) (s : Session) → StandsSound s → (text : List ℕ) × (glances : List Glance) × IsSession c commands s text glances

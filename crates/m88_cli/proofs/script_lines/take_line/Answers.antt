@@ -1,10 +1,10 @@
 -- A line goes on with the lines of a script, or is none of one.
-use Rattle.std.proofs.Common.{◌≡◌, [], ◌∷◌, ◌++◌, length, rules, sym, subst, ◌∙◌, true, false}
+use Rattle.std.proofs.Common.{◌≡◌, [], ◌∷◌, ◌++◌, None, Some, length, rules, sym, subst, ◌∙◌, true, false}
 use Rattle.m88_cli.specs.Script.{AreScriptLines}
 use Rattle.m88_cli.specs.Inside.ScriptWords.{has_room}
 use Rattle.std.proofs.lemmas.Bool.{eqb-true}
 use Rattle.m88_cli.proofs.ScriptReading.{empty_of, not_empty}
-use Rattle.m88_cli.proofs.Scripts.{no_command, none_told, one_empty_more, one_more_fits, one_more_is_none}
+use Rattle.m88_cli.proofs.Scripts.{no_command, one_empty_more, one_more_fits, one_more_is_none}
 use Rattle.m88_cli.proofs.script_lines.take_line.Goals as goal
 
 pub returns-then-is_empty-clause-goes_on : goal.returns-then-is_empty-clause-goes_on
@@ -16,7 +16,7 @@ pub returns-in_default-clause-stops : goal.returns-in_default-clause-stops
 returns-in_default-clause-stops c = λ no lines are others all.
     let some = not_empty c.args.line.now c.is_empty.result c.is_empty.ensures c.if-is_empty.false in
     no_command lines c.args.line.now others some
-    (λ k is. none_told c.command_in.result k c.in_default.is (c.command_in.ensures.only k is)) all
+    (λ k is. absurd (let clash : None ≡ Some k = sym c.in_default.is ∙ c.command_in.ensures.only k is in cc)) all
 
 pub returns-then-not-has_room-clause-stops : goal.returns-then-not-has_room-clause-stops
 returns-then-not-has_room-clause-stops c = λ no lines are others all.

@@ -1,8 +1,11 @@
 -- One command after the other, on a board that stands at the first moment of the program that the image holds.
-use Rattle.std.proofs.Common.{[], ℕ, List, ap, arith, length, rules, sym, subst}
+use Rattle.std.proofs.Common.{[], ℕ, List, ap, arith, length, rules, sym, subst, ◌∙◌}
 use Rattle.m88_board.proofs.Laws.{saw_none}
-use Rattle.m88_cli.proofs.Carrying.{IsCarrying, carry_broke, carry_end, carry_next, carry_start, room_here, room_next, stands_first}
-use Rattle.m88_cli.proofs.InputSessions.{no_session_front}
+use Rattle.m88_board.specs.Board.{BoardView}
+use Rattle.m88_board.specs.Moves.{IsAt}
+use Rattle.m88_event.specs.Timeline.{opening_moment}
+use Rattle.m88_cli.proofs.Carrying.{IsCarrying, carry_broke, carry_end, carry_next, carry_start, room_here, room_next}
+use Rattle.m88_cli.proofs.OneText.InputSessions.{no_session_front}
 use Rattle.m88_cli.proofs.Reporting.{goes_none}
 use Rattle.m88_cli.specs.Command.{settings_in}
 use Rattle.m88_cli.specs.Answer.Session.{course_of, opening_session}
@@ -26,9 +29,14 @@ loop-command-init g c =
       carrying = λ p of mode.
           subst (λ t. IsCarrying (course_of p s) c.args.commands.now opening_session 0
           (g.W.Watch.seen c.args.watch.now) (g.W.Watch.seen c.args.watch.now) t begun) (sym c.new-text.ensures.items)
-          (carry_start (course_of p s) c.args.commands.now opening_session (g.W.Watch.seen c.args.watch.now) begun
-          (stands_first p s c.in_ok-board.board begun (c.in_ok-board.ensures.at p of mode) c.in_ok-board.ensures.limit
-          c.new-2.ensures.board c.new-2.ensures.schedule c.new-2.ensures.taken c.new-3.ensures));
+          (carry_start (course_of p s) c.args.commands.now opening_session (g.W.Watch.seen c.args.watch.now) begun (record {
+            schedule = c.new-2.ensures.schedule;
+            limit = ap (λ (b : BoardView). b.limit) c.new-2.ensures.board ∙ c.in_ok-board.ensures.limit;
+            at = subst (λ (b : BoardView). IsAt p s.absent opening_moment b) (sym c.new-2.ensures.board)
+                (c.in_ok-board.ensures.at p of mode);
+            taken = c.new-2.ensures.taken;
+            breakpoints = c.new-3.ensures;
+          }));
       room = omega (arith, none, c.requires.breaks);
     }
 

@@ -1,13 +1,21 @@
 -- A source more stands behind those before it, and the last one is what is left.
-use Rattle.std.proofs.Common.{length, ◌≡◌, ◌+◌, ap, arith, subst, sym, rules, ◌∙◌}
+use Rattle.std.proofs.Common.{length, ◌≡◌, ◌+◌, ap, arith, subst, sym, rules, ◌∙◌, List, [], ◌∷◌, ◌++◌}
 use Rattle.std.specs.List.{All}
 use Rattle.std.proofs.lemmas.List.Elements.{All-push}
-use Rattle.m88_cli.specs.Inside.Placing.{IsShort, all_placed}
-use Rattle.m88_cli.specs.Sources.{most_sources}
-use Rattle.m88_asm.specs.Several.{AreSources}
+use Rattle.std.proofs.lemmas.List.{length-map, map-append}
 use Rattle.m88_asm.proofs.Laws.{StandBefore, last_before, one_more_before, too_many}
-use Rattle.m88_cli.proofs.KeptSources.{as_many_placed, one_more_placed}
+use Rattle.m88_asm.specs.Several.{AreSources}
+use Rattle.m88_cli.specs.Inside.Placing.{IsShort, all_placed, source_in}
+use Rattle.m88_cli.specs.Sources.{most_sources}
+use Rattle.m88_cli.specs.declared.commands.sources.PlacedSource.{PlacedSource as Kept}
 use Rattle.m88_cli.proofs.commands.sources.sources_of.Goals as goal
+
+-- one source more
+one_more_placed : (new old : List Kept) (s : Kept) → new ≡ old ++ s ∷ [] → all_placed new ≡ all_placed old ++ source_in s ∷ []
+one_more_placed new old s items = ap all_placed items ∙ map-append source_in old (s ∷ [])
+
+as_many_placed : (sources : List Kept) → length (all_placed sources) ≡ length sources
+as_many_placed sources = length-map sources source_in
 
 pub returns-then-len-eq-MOST_SOURCES-clause-too_many : goal.returns-then-len-eq-MOST_SOURCES-clause-too_many
 returns-then-len-eq-MOST_SOURCES-clause-too_many c =

@@ -1,10 +1,13 @@
 -- Each command by its own.
-use Rattle.std.proofs.Common.{ap, arith, refl, length, length-append, List, ℕ, ◌++◌, ◌∙◌}
+use Rattle.std.proofs.Common.{ap, arith, refl, length, length-append, subst, sym, List, [], ◌∷◌, ℕ, ◌++◌, ◌∙◌}
 use Rattle.std.proofs.lemmas.Result.{on_ok_weaker}
 use Rattle.m88_event.specs.Timeline.{record_at}
 use Rattle.m88_report.specs.Report.{record_lines}
 use Rattle.m88_board.specs.Board.{BoardView}
-use Rattle.m88_cli.proofs.Carrying.{carries_still, set_stands}
+use Rattle.m88_board.specs.Moves.{IsAt}
+use Rattle.m88_board.specs.declared.walk.Walk.{Walk}
+use Rattle.m88_isa.specs.Address.{word_address}
+use Rattle.m88_cli.proofs.Carrying.{carries_still}
 use Rattle.m88_cli.specs.declared.script.MonitorCommand.TheVariants.{Break, Memory, Pipe, Regs}
 use Rattle.m88_cli.proofs.commands.monitor.Monitor.carry.Goals as goal
 
@@ -25,8 +28,14 @@ returns-in-Break g c =
     rw c.in-Break.is (carries_still (Break c.in-Break.address) _ c.args.self.now c.set_breakpoint.new.self _ _ c.set_breakpoint.result
     (ap (λ (xs : List ℕ). length xs) c.set_breakpoint.ensures.set ∙ length-append c.args.self.now.breakpoints.items _) (λ d s. refl)
     (on_ok_weaker c.set_breakpoint.result (λ text d s stands. (
-      set_stands d s c.in-Break.address c.args.self.now c.set_breakpoint.new.self stands c.set_breakpoint.ensures.walk
-          c.set_breakpoint.ensures.set,
+      record {
+        schedule = ap (λ (w : Walk). w.schedule.now) c.set_breakpoint.ensures.walk ∙ stands.schedule;
+        limit = ap (λ (w : Walk). w.board.now.limit) c.set_breakpoint.ensures.walk ∙ stands.limit;
+        at = subst (λ (w : Walk). IsAt d.program d.named s.moment w.board.now) (sym c.set_breakpoint.ensures.walk) stands.at;
+        taken = ap (λ (w : Walk). w.taken) c.set_breakpoint.ensures.walk ∙ stands.taken;
+        breakpoints = c.set_breakpoint.ensures.set
+            ∙ ap (λ (xs : List ℕ). xs ++ word_address c.in-Break.address ∷ []) stands.breakpoints;
+      },
       text,
     ))
     c.set_breakpoint.ensures.text))

@@ -1,12 +1,25 @@
 -- One line after the other, to the last.
-use Rattle.std.proofs.Common.{ℕ, List, ◌++◌, ◌-◌, ◌+◌, ◌≡◌, ◌∙◌, ap, arith, flat_map}
+use Rattle.std.proofs.Common.{ℕ, suc, List, ◌++◌, ◌-◌, ◌+◌, ◌≡◌, ◌∙◌, ap, append_assoc, append-nil, arith, flat_map, sym}
 use Rattle.m88_isa.specs.Address.{after_bytes, word_address}
 use Rattle.m88_mem.specs.DataBus.{bus_of}
 use Rattle.m88_report.specs.Report.{word_line}
 use Rattle.m88_board.proofs.Laws.{words_seen}
-use Rattle.m88_cli.proofs.Lines.{one_word, no_word}
 use Rattle.m88_cli.specs.Answer.MonitorLines.{words_from, words_text}
 use Rattle.m88_cli.proofs.commands.monitor.showing.push_words.Goals as goal
+
+-- one word more is written
+one_word : (bus : ℕ → ℕ) (a n k : ℕ) (text : List ℕ) → n ≡ suc k
+    → (text ++ word_line (a, bus a)) ++ flat_map word_line (words_from bus (after_bytes a 4) k)
+    ≡ text ++ flat_map word_line (words_from bus a n)
+unfolding words_from
+one_word bus a n k text e =
+    append_assoc text (word_line (a, bus a)) (flat_map word_line (words_from bus (after_bytes a 4) k))
+    ∙ ap (λ j. text ++ flat_map word_line (words_from bus a j)) (sym e)
+
+-- and none
+no_word : (bus : ℕ → ℕ) (a n : ℕ) (text : List ℕ) → n ≡ 0 → text ≡ text ++ flat_map word_line (words_from bus a n)
+unfolding words_from
+no_word bus a n text e = sym (append-nil text) ∙ ap (λ j. text ++ flat_map word_line (words_from bus a j)) (sym e)
 
 pub loop-line-preserved : goal.loop-line-preserved
 loop-line-preserved c =

@@ -3,9 +3,10 @@ use Rattle.std.specs.List.{range_with_len}
 use Rattle.std.proofs.Common.{None, arith, map, sym, ◌∙◌}
 use Rattle.std.proofs.lemmas.List.{ext_get_or}
 use Rattle.std.proofs.lemmas.List.FromFn.{get_or-map-range_with_len, length-map-range_with_len}
+use Rattle.m88_board.proofs.Laws.{registers_seen}
 use Rattle.m88_board.specs.Board.{completed_of}
 use Rattle.m88_event.specs.Local.{register_seen}
-use Rattle.m88_cli.proofs.Lines.{registers_are}
+use Rattle.m88_cli.specs.Answer.MonitorLines.{registers_at}
 use Rattle.m88_cli.proofs.commands.monitor.showing.registers_of.Goals as goal
 
 pub returns-clause-value : goal.returns-clause-value
@@ -18,4 +19,5 @@ returns-clause-value c =
     ∙ sym (get_or-map-range_with_len f 0 32 i i None (omega (arith, below, long)) (omega arith)))
 
 pub returns-clause-moment : goal.returns-clause-moment
-returns-clause-moment c = λ p named m at. returns-clause-value c ∙ registers_are p named m c.args.board.now at
+unfolding registers_at
+returns-clause-moment c = λ p named m at. returns-clause-value c ∙ registers_seen p named m c.args.board.now at
