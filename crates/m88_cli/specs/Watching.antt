@@ -31,7 +31,8 @@ ShowsGlances _ input glances = glances ≡ []
 
 -- a watch was shown all of that
 abbrev pub Shown : Command → List ℕ → Option (List Glance) → Option (List Glance) → Type 0
-Shown command input before after = (glances : List Glance) × ShowsGlances command input glances × Saw before after glances
+Shown command input before after =
+    (glances : List Glance) × ShowsGlances command input glances × Saw before after glances
 
 -- or a front of it, over an input that the command accepts: others come behind what it was shown
 pub record FrontOfAccepted (command : Command) (input : List ℕ) (before after : Option (List Glance)) : Type 0 where
