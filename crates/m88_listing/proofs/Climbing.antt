@@ -23,13 +23,13 @@ use Rattle.m88_asm.specs.Objects.{labels_at, sets_at}
 use Rattle.m88_asm.specs.Units.{address_in, based, section_length}
 use Rattle.m88_listing.specs.Columns.{bare_line}
 use Rattle.m88_listing.specs.Rows.{Row, lines_with, named_by, row_on, row_lines, shown_as}
-use Rattle.m88_listing.specs.Inside.Slots.{kept_row, slots_from, slots_of, symbol_slot, walked}
+use Rattle.m88_listing.specs.Inside.Slots.{Climb, kept_row, slots_from, slots_of, symbol_slot, walked}
 use Rattle.m88_listing.specs.declared.slots.Slot.{Slot}
 
 -- numbers climb from one on, and stay below another
-abbrev Climb : ℕ → ℕ → List ℕ → Type 0
-Climb from to [] = Unit {0}
-Climb from to (n ∷ ns) = (from ≤ n) × (n < to) × Climb (n + 1) to ns
+abbrev NumbersClimb : ℕ → ℕ → List ℕ → Type 0
+NumbersClimb from to [] = Unit {0}
+NumbersClimb from to (n ∷ ns) = (from ≤ n) × (n < to) × NumbersClimb (n + 1) to ns
 
 -- the lines of statements
 line_numbers : List Statement → List ℕ
@@ -46,40 +46,44 @@ statement_line number _ _ (statement.label_alone label) = refl
 said_line : (number : ℕ) (ps : List Piece) (s : Statement) → LineSays number ps (says s) → s.line ≡ number
 said_line number ps s (units.statement_line is) = statement_line number ps s is
 
-lower : (low from to : ℕ) (ns : List ℕ) → low ≤ from → Climb from to ns → Climb low to ns
+lower : (low from to : ℕ) (ns : List ℕ) → low ≤ from → NumbersClimb from to ns → NumbersClimb low to ns
 lower low from to [] l h = tt
 lower low from to (n ∷ ns) l h = (omega (arith, l, h.0), h.1, h.2)
 
 rows_climb : (number : ℕ) (lines : List (List ℕ)) (ss : List Statement) (ms : List Module) → AreRows number lines ss ms
-    → Climb number (number + length lines) (line_numbers ss ++ module_numbers ms)
+    → NumbersClimb number (number + length lines) (line_numbers ss ++ module_numbers ms)
 unfolding line_numbers module_numbers
 rows_climb number _ _ _ units.no_row = tt
 rows_climb number _ _ _ (units.row_of_nothing {lines = lines} {ss = ss} {ms = ms} tokens said rest) =
     let r = rows_climb (number + 1) lines ss ms rest in
-    lower number (number + 1) _ _ (omega arith) (subst (λ to. Climb (number + 1) to (line_numbers ss ++ module_numbers ms)) (omega arith) r)
+    lower number (number + 1) _ _ (omega arith) (subst (λ to. NumbersClimb (number + 1) to (line_numbers ss ++ module_numbers ms)) (omega arith) r)
 rows_climb number _ _ _ (units.row_of_statement {lines = lines} {ps = ps} {s = s} {ss = ss} {ms = ms} tokens said rest) =
     let r = rows_climb (number + 1) lines ss ms rest in
     let here : s.line ≡ number = said_line number ps s said in (
       omega (arith, here),
       omega (arith, here),
-      subst (λ from. Climb from (number + suc (length lines)) (line_numbers ss ++ module_numbers ms)) (ap (λ n. n + 1) (sym here))
-          (subst (λ to. Climb (number + 1) to (line_numbers ss ++ module_numbers ms)) (omega arith) r),
+      subst (λ from. NumbersClimb from (number + suc (length lines)) (line_numbers ss ++ module_numbers ms)) (ap (λ n. n + 1) (sym here))
+          (subst (λ to. NumbersClimb (number + 1) to (line_numbers ss ++ module_numbers ms)) (omega arith) r),
     )
 rows_climb number _ _ _ (units.row_of_module {lines = lines} {ss = ss} {ms = ms} tokens said rest) =
     let r = rows_climb (number + 1) lines ss ms rest in
-    lower number (number + 1) _ _ (omega arith) (subst (λ to. Climb (number + 1) to (line_numbers ss ++ module_numbers ms)) (omega arith) r)
+    lower number (number + 1) _ _ (omega arith) (subst (λ to. NumbersClimb (number + 1) to (line_numbers ss ++ module_numbers ms)) (omega arith) r)
 
 modules_climb : (from to : ℕ) (ss : List Statement) (ms ns : List Module) → AreModules ss ms ns
-    → Climb from to (line_numbers ss ++ module_numbers ms) → Climb from to (module_numbers ns)
+    → NumbersClimb from to (line_numbers ss ++ module_numbers ms) → NumbersClimb from to (module_numbers ns)
 unfolding line_numbers module_numbers
 modules_climb from to ss _ _ units.only_main h = h
 modules_climb from to _ _ _ units.first_main h = h
 modules_climb from to _ _ _ units.no_main h = h
 
--- slots climb, as the statements that they are of
+-- slots climb, as the statements that they are of, and stay below a number
 abbrev SlotsClimb : ℕ → ℕ → List Slot → Type 0
 SlotsClimb from to [] = Unit {0}
 SlotsClimb from to (s ∷ ss) = (from ≤ s.line) × (s.line < to) × SlotsClimb (s.line + 1) to ss
+
+pub climbs : (from to : ℕ) (ss : List Slot) → SlotsClimb from to ss → Climb from ss
+climbs from to [] h = tt
+climbs from to (s ∷ ss) h = (h.0, climbs (s.line + 1) to ss h.2)
 
 lower_slots : (low from to : ℕ) (ss : List Slot) → low ≤ from → SlotsClimb from to ss → SlotsClimb low to ss
 lower_slots low from to [] l h = tt
@@ -119,7 +123,7 @@ named_line r s e =
     (sets_in r.statement.line r.statement.body) (labels_in r.before r.statement.line r.statement.label) e
 
 from_climb : (b : Placement Module) (c : Counters) (xs : List Statement) (from to : ℕ) (rest : List ℕ) (more : List Slot)
-    → Climb from to (line_numbers xs ++ rest) → ((f : ℕ) → Climb f to rest → SlotsClimb f to more) → SlotsClimb from to (slots_from b c xs ++ more)
+    → NumbersClimb from to (line_numbers xs ++ rest) → ((f : ℕ) → NumbersClimb f to rest → SlotsClimb f to more) → SlotsClimb from to (slots_from b c xs ++ more)
 unfolding line_numbers
 from_climb b c [] from to rest more h next = next from h
 from_climb b c (x ∷ xs) from to rest more h next = by (length_of r == 0) (from_climb b (after c x.body) xs (x.line + 1) to rest more h.2 next)
@@ -145,7 +149,7 @@ from_climb b c (x ∷ xs) from to rest more h next = by (length_of r == 0) (from
     by true left = named (named_by r) refl left
     by false left = (h.0, h.1, left)
 
-all_climb : (text datas from to : ℕ) (ms : List Module) → Climb from to (module_numbers ms) → SlotsClimb from to (slots_of (stood_from section_length text datas ms))
+all_climb : (text datas from to : ℕ) (ms : List Module) → NumbersClimb from to (module_numbers ms) → SlotsClimb from to (slots_of (stood_from section_length text datas ms))
 unfolding module_numbers
 all_climb text datas from to [] h = tt
 all_climb text datas from to (m ∷ ms) h =
@@ -161,17 +165,17 @@ unit_climbs source u is =
     (rows_climb 1 (lines_of source) is.statements is.modules is.are_rows))
 
 -- what is looked for by its line
-not_here : (row : Row) (rows : List Row) (n : ℕ) → (row.line ≡ n → ⊥) → row_on (row ∷ rows) n ≡ row_on rows n
+pub not_here : (row : Row) (rows : List Row) (n : ℕ) → (row.line ≡ n → ⊥) → row_on (row ∷ rows) n ≡ row_on rows n
 not_here row rows n differs = cond-false (row.line == n) (Some row) (row_on rows n) (ne_eqb row.line n differs)
 
 just_here : (row : Row) (rows : List Row) (n : ℕ) → (row.line == n) ≡ true → row_on (row ∷ rows) n ≡ Some row
 just_here row rows n e = cond-true (row.line == n) (Some row) (row_on rows n) e
 
-none_below : (found : ℕ → Option ℕ) (from to n : ℕ) (ss : List Slot) → SlotsClimb from to ss → n < from → row_on (map (kept_row found) ss) n ≡ None
-none_below found from to n [] h l = refl
-none_below found from to n (s ∷ ss) h l =
+none_below : (found : ℕ → Option ℕ) (from n : ℕ) (ss : List Slot) → Climb from ss → n < from → row_on (map (kept_row found) ss) n ≡ None
+none_below found from n [] h l = refl
+none_below found from n (s ∷ ss) h l =
     not_here (kept_row found s) (map (kept_row found) ss) n (λ e. absurd (omega (arith, e, h.0, l)))
-    ∙ none_below found (s.line + 1) to n ss h.2 (omega (arith, h.0, l))
+    ∙ none_below found (s.line + 1) n ss h.1 (omega (arith, h.0, l))
 
 -- what is done for each line by its row doesn't look at a row of an earlier line
 passed_row : {A : Type 0} (f : ℕ × List ℕ → Option Row → List A) (row : Row) (rows : List Row) (n : ℕ) (lines : List (List ℕ)) → row.line < n
@@ -194,12 +198,12 @@ above n m l other = elim (cases_order m n) [
 abbrev pub lined : ℕ × List ℕ → Option Row → List (List ℕ)
 lined e o = option_map_or (row_lines e.0 e.1) o (bare_line e.0 e.1 ∷ [])
 
-walked_from : (found : ℕ → Option ℕ) (n to : ℕ) (lines : List (List ℕ)) (ss : List Slot) → SlotsClimb n to ss
+pub walked_from : (found : ℕ → Option ℕ) (n : ℕ) (lines : List (List ℕ)) (ss : List Slot) → Climb n ss
     → walked found n lines ss ≡ flat_map (λ (e : ℕ × List ℕ). lined e (row_on (map (kept_row found) ss) e.0)) (enumerate_from n lines)
-walked_from found n to [] ss h = refl
-walked_from found n to (line ∷ lines) [] h = ap (λ ls. bare_line n line ∷ ls) (walked_from found (n + 1) to lines [] tt)
-walked_from found n to (line ∷ lines) (s ∷ ss) h =
-    by (s.line == n) refl (λ k. walked_from found (n + 1) to lines ss k) (λ k. walked_from found (n + 1) to lines (s ∷ ss) k)
+walked_from found n [] ss h = refl
+walked_from found n (line ∷ lines) [] h = ap (λ ls. bare_line n line ∷ ls) (walked_from found (n + 1) lines [] tt)
+walked_from found n (line ∷ lines) (s ∷ ss) h =
+    by (s.line == n) refl (λ k. walked_from found (n + 1) lines ss k) (λ k. walked_from found (n + 1) lines (s ∷ ss) k)
   where
     row : Row
     row = kept_row found s
@@ -210,25 +214,25 @@ walked_from found n to (line ∷ lines) (s ∷ ss) h =
     rest : List Row → List (List ℕ)
     rest rs = flat_map (λ (e : ℕ × List ℕ). lined e (row_on rs e.0)) (enumerate_from (n + 1) lines)
 
-    by : (t : Bool) → (s.line == n) ≡ t → (SlotsClimb (n + 1) to ss → walked found (n + 1) lines ss ≡ rest rows)
-        → (SlotsClimb (n + 1) to (s ∷ ss) → walked found (n + 1) lines (s ∷ ss) ≡ rest (row ∷ rows))
+    by : (t : Bool) → (s.line == n) ≡ t → (Climb (n + 1) ss → walked found (n + 1) lines ss ≡ rest rows)
+        → (Climb (n + 1) (s ∷ ss) → walked found (n + 1) lines (s ∷ ss) ≡ rest (row ∷ rows))
         → (if t then row_lines n line row ++ walked found (n + 1) lines ss else bare_line n line ∷ walked found (n + 1) lines (s ∷ ss))
         ≡ lined (n, line) (row_on (row ∷ rows) n) ++ rest (row ∷ rows)
     by true e taken kept =
         let same : s.line ≡ n = eqb-true s.line n e in
         ap (λ ls. row_lines n line row ++ ls)
-        (taken (subst (λ k. SlotsClimb (k + 1) to ss) same h.2) ∙ sym (passed_row lined row rows (n + 1) lines (omega (arith, same))))
+        (taken (subst (λ k. Climb (k + 1) ss) same h.1) ∙ sym (passed_row lined row rows (n + 1) lines (omega (arith, same))))
         ∙ ap (λ o. lined (n, line) o ++ rest (row ∷ rows)) (sym (just_here row rows n e))
     by false e taken kept =
         let other : (s.line ≡ n → ⊥) = eqb-false s.line n e in
         let more : n + 1 ≤ s.line = above n s.line h.0 other in
-        ap (λ ls. bare_line n line ∷ ls) (kept (more, h.1, h.2))
+        ap (λ ls. bare_line n line ∷ ls) (kept (more, h.1))
         ∙ ap (λ o. lined (n, line) o ++ rest (row ∷ rows))
-        (sym (not_here row rows n other ∙ none_below found (s.line + 1) to n ss h.2 (omega (arith, h.0))))
+        (sym (not_here row rows n other ∙ none_below found (s.line + 1) n ss h.1 (omega (arith, h.0))))
 
-pub walked_lines : (found : ℕ → Option ℕ) (to : ℕ) (source : List ℕ) (ss : List Slot) → SlotsClimb 1 to ss
+pub walked_lines : (found : ℕ → Option ℕ) (source : List ℕ) (ss : List Slot) → Climb 1 ss
     → walked found 1 (lines_of source) ss ≡ flat_map (lines_with (map (kept_row found) ss)) (enumerate_from 1 (lines_of source))
-walked_lines found to source ss h = walked_from found 1 to (lines_of source) ss h
+walked_lines found source ss h = walked_from found 1 (lines_of source) ss h
 
 -- each row is shown by one line
 abbrev pub shown : Option Row → List Placed
@@ -267,5 +271,5 @@ shown_all found n (line ∷ lines) (s ∷ ss) h =
         let other : (s.line ≡ n → ⊥) = eqb-false s.line n e in
         let more : n + 1 ≤ s.line = above n s.line h.0 other in
         ap (λ o. shown o ++ rest (row ∷ rows))
-        (not_here row rows n other ∙ none_below found (s.line + 1) _ n ss h.2 (omega (arith, h.0)))
+        (not_here row rows n other ∙ none_below found (s.line + 1) n ss (climbs (s.line + 1) _ ss h.2) (omega (arith, h.0)))
         ∙ kept (more, omega (arith, h.1), subst (λ to. SlotsClimb (s.line + 1) to ss) (omega arith) h.2)

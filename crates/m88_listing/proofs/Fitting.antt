@@ -16,10 +16,11 @@ use Rattle.m88_parse.specs.WellFormed.{IsWellFormed}
 use Rattle.m88_link.specs.declared.object.Symbol.{Symbol}
 use Rattle.m88_link.specs.Symbols.{repeated_after}
 use Rattle.m88_link.specs.Bases.{Placement, stood_from, up_to_multiple}
+use Rattle.m88_link.specs.Refusal.{AreDisjoint}
 use Rattle.m88_asm.specs.Accepted.{IsAcceptedUnit}
 use Rattle.m88_asm.specs.Counters.{Counters, Located, after, at_begin, length_of, located, offset_of, place_of}
-use Rattle.m88_asm.specs.Faults.{duplicate_at, misfit_at, misplaced_at, module_fault, modules_fault, statements_fault, too_large_at}
-use Rattle.m88_asm.specs.Images.{IsUnitImage, run_of, runs_in}
+use Rattle.m88_asm.specs.Faults.{duplicate_at, misfit_at, misplaced_at, module_fault, modules_fault, statements_fault, too_large_at, IsAssembled}
+use Rattle.m88_asm.specs.Images.{IsUnitImage, run_of, runs_in, unit_byte}
 use Rattle.m88_asm.specs.Objects.{symbols_of}
 use Rattle.m88_asm.specs.Units.{address_in, based, bytes_of, section_length, unit_layout, value_in_module}
 use Rattle.m88_asm.proofs.Laws.{AllFormed, CanFill, EachBased, Has, each_fills, first_parts, formed, has_left, has_right, length-filled_bytes, none_of_both, run_found, runs_law}
@@ -57,17 +58,16 @@ modules_found globals found (b ∷ bs) into = (
   modules_found globals found bs (λ a v h. into a v (has_right (runs_in globals b) (flat_map (runs_in globals) bs) a v h)),
 )
 
--- a byte of a statement is that of the image
-pub found_in : (u : Source) (image : ProgramImage) → IsAcceptedUnit u → IsUnitImage u image
-    → (a v : ℕ) → Has (flat_map (runs_in (unit_layout u).globals) (based u)) a v → byte_at image a ≡ Some v
-found_in u image accepted own a v h =
+-- a byte of a statement is that of the image, where no address has two
+pub found_in : (u : Source) (found : ℕ → Option ℕ) → AreDisjoint (unit_layout u).extents → ((a : ℕ) → found a ≡ unit_byte u a)
+    → (a v : ℕ) → Has (flat_map (runs_in (unit_layout u).globals) (based u)) a v → found a ≡ Some v
+found_in u found apart own a v h =
     let globals = (unit_layout u).globals in
-    own.bytes a ∙ sym (runs_law globals (based u) a accepted.linkable.disjoint)
-    ∙ run_found globals (based u) a v accepted.linkable.disjoint h
+    own a ∙ sym (runs_law globals (based u) a apart) ∙ run_found globals (based u) a v apart h
 
-pub all_found : (u : Source) (image : ProgramImage) → IsAcceptedUnit u → IsUnitImage u image
-    → EachBased (λ b. AreFound (unit_layout u).globals b (byte_at image) at_begin b.part.statements) (based u)
-all_found u image accepted own = modules_found (unit_layout u).globals (byte_at image) (based u) (found_in u image accepted own)
+pub all_found : (u : Source) (found : ℕ → Option ℕ) → AreDisjoint (unit_layout u).extents → ((a : ℕ) → found a ≡ unit_byte u a)
+    → EachBased (λ b. AreFound (unit_layout u).globals b found at_begin b.part.statements) (based u)
+all_found u found apart own = modules_found (unit_layout u).globals found (based u) (found_in u found apart own)
 
 -- a statement that meets no fault has room
 no_fault : {A : Type 0} (b : Bool) (x : A) → (if b then Some x else None) ≡ None → b ≡ false
@@ -121,11 +121,29 @@ modules_fit globals image (b ∷ bs) is fills clean found = (
   modules_fit globals image bs is fills.1 clean.1 found.1,
 )
 
+-- what is found of a unit, each of whose modules can be filled: its statements meet no fault, no address has two bytes,
+-- and an image has them
+pub record IsLaid (u : Source) (image : ProgramImage) : Type 0 where
+  pub fills : EachBased (CanFill (unit_layout u).globals) (based u)
+  pub assembled : IsAssembled u
+  pub disjoint : AreDisjoint (unit_layout u).extents
+  pub is_image : IsImage image
+  pub bytes : (a : ℕ) → byte_at image a ≡ unit_byte u a
+
+pub accepted_laid : (u : Source) (image : ProgramImage) → IsWellFormed u → IsAcceptedUnit u → IsUnitImage u image → IsLaid u image
+accepted_laid u image well accepted own = record {
+  fills = each_fills u well accepted.linkable;
+  assembled = accepted.assembled;
+  disjoint = accepted.linkable.disjoint;
+  is_image = own.is_image;
+  bytes = own.bytes;
+}
+
 -- so the modules of a unit with an image fit
-pub unit_fits : (u : Source) (image : ProgramImage) → IsWellFormed u → IsAcceptedUnit u → IsUnitImage u image → AllByRecursion ModuleFits (based u)
-unit_fits u image well accepted own =
-    modules_fit (unit_layout u).globals image (based u) own.is_image (each_fills u well accepted.linkable)
-    (each_clean _ _ u.modules accepted.assembled) (all_found u image accepted own)
+pub unit_fits : (u : Source) (image : ProgramImage) → IsLaid u image → AllByRecursion ModuleFits (based u)
+unit_fits u image laid =
+    modules_fit (unit_layout u).globals image (based u) laid.is_image laid.fills
+    (each_clean _ _ u.modules laid.assembled) (all_found u (byte_at image) laid.disjoint laid.bytes)
 
 -- and what is kept of them lies among the addresses, where bytes are found
 has_each : (globals : List Symbol) (b : Placement Module) (found : ℕ → Option ℕ) (r : Located) → IsFound globals b found r
@@ -169,10 +187,9 @@ are_slots globals found [] fit is = tt
 are_slots globals found (b ∷ bs) fit is = both_slots found (slots_from b at_begin b.part.statements) (slots_of bs)
     (rows_slots globals b found at_begin b.part.statements fit.0 is.0) (are_slots globals found bs fit.1 is.1)
 
-pub unit_slots : (u : Source) (image : ProgramImage) → IsWellFormed u → IsAcceptedUnit u → IsUnitImage u image
-    → AllByRecursion (IsSlot (byte_at image)) (slots_of (based u))
-unit_slots u image well accepted own =
-    are_slots (unit_layout u).globals (byte_at image) (based u) (unit_fits u image well accepted own) (all_found u image accepted own)
+pub unit_slots : (u : Source) (image : ProgramImage) → IsLaid u image → AllByRecursion (IsSlot (byte_at image)) (slots_of (based u))
+unit_slots u image laid =
+    are_slots (unit_layout u).globals (byte_at image) (based u) (unit_fits u image laid) (all_found u (byte_at image) laid.disjoint laid.bytes)
 
 -- the rows of a unit are what is kept, with the bytes that are found
 found_same : (found : ℕ → Option ℕ) (at n : ℕ) (bytes : List ℕ) → ((k v : ℕ) → slice_get bytes k ≡ Some v → found (at + (n + k)) ≡ Some v)
@@ -228,6 +245,6 @@ modules_kept globals found (b ∷ bs) h =
     ∙ ap (λ rows. map (kept_row found) (slots_from b at_begin b.part.statements) ++ rows) (modules_kept globals found bs h.1)
     ∙ sym (map-append (kept_row found) (slots_from b at_begin b.part.statements) (slots_of bs))
 
-pub unit_kept : (u : Source) (image : ProgramImage) → IsAcceptedUnit u → IsUnitImage u image
-    → rows_of_unit u ≡ map (kept_row (byte_at image)) (slots_of (based u))
-unit_kept u image accepted own = modules_kept (unit_layout u).globals (byte_at image) (based u) (all_found u image accepted own)
+pub unit_kept : (u : Source) (found : ℕ → Option ℕ) → AreDisjoint (unit_layout u).extents → ((a : ℕ) → found a ≡ unit_byte u a)
+    → rows_of_unit u ≡ map (kept_row found) (slots_of (based u))
+unit_kept u found apart own = modules_kept (unit_layout u).globals found (based u) (all_found u found apart own)

@@ -10,7 +10,15 @@ pub mod Ordered
 pub mod Adding
 pub mod Fitting
 pub mod Climbing
+pub mod Walking
+pub mod Refusing
 pub mod Showing
 pub mod Verdict
 pub mod Whole
 pub mod Numbering
+pub mod Naming
+pub mod Addressing
+pub mod Settling
+pub mod Reached
+pub mod Linking
+pub mod Refitting

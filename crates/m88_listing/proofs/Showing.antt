@@ -149,9 +149,9 @@ pub each_shows_its_image : EachShowsItsImage
 each_shows_its_image = λ source u image is accepted own a b.
     let found = byte_at image in
     let ss = slots_of (based u) in
-    let kept : rows_of_unit u ≡ map (kept_row found) ss = unit_kept u image accepted own in
+    let kept : rows_of_unit u ≡ map (kept_row found) ss = unit_kept u found accepted.linkable.disjoint own.bytes in
     let all : shown_runs (rows_of_unit u) source ≡ runs (rows_of_unit u) =
     ap (λ rows. shown_runs rows source) kept ∙ shown_all found 1 (lines_of source) ss (unit_climbs source u is) ∙ ap runs (sym kept) in (
-      λ h. found_in u image accepted own a b (modules_show (unit_layout u).globals (based u) a b (subst (λ ps. Shows ps a b) all h)),
+      λ h. found_in u found accepted.linkable.disjoint own.bytes a b (modules_show (unit_layout u).globals (based u) a b (subst (λ ps. Shows ps a b) all h)),
       λ h. subst (λ ps. Shows ps a b) (sym all) (shown_kept (unit_layout u).globals (based u) a b (sym (own.bytes a) ∙ h)),
     )

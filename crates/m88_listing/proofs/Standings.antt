@@ -17,7 +17,7 @@ bases_here m o is =
     ap base_of same ∙ same_base (standing m o)
 
 -- what stands are the parts
-parts_stood : {A : Type 0} (size : ℕ → A → ℕ) (text datas : ℕ) (xs : List A) → map (λ (b : Placement A). b.part) (stood_from size text datas xs) ≡ xs
+pub parts_stood : {A : Type 0} (size : ℕ → A → ℕ) (text datas : ℕ) (xs : List A) → map (λ (b : Placement A). b.part) (stood_from size text datas xs) ≡ xs
 parts_stood size text datas [] = refl
 parts_stood size text datas (x ∷ xs) = ap (λ ys. x ∷ ys) (parts_stood size (up_to_multiple 8 text + size 0 x) (up_to_multiple 8 datas + size 1 x) xs)
 

@@ -1,5 +1,5 @@
 -- The whole text of a listing, and what a reply says of a source that has nothing left.
-use Rattle.std.proofs.Common.{◌≡◌, ℕ, ◌<◌, ◌≤◌, List, ◌++◌, Option, Some, Bool, true, false, inl, inr, IfSome, length, length-append, take, drop, ap, refl, sym, ◌∙◌, subst, arith}
+use Rattle.std.proofs.Common.{◌≡◌, ℕ, ◌<◌, ◌≤◌, List, ◌++◌, Option, Some, Bool, true, false, inl, inr, IfSome, length, length-append, take, drop, ap, sym, ◌∙◌, subst, arith}
 use Rattle.std.specs.Prelude.{MatchBool, codes}
 use Rattle.std.proofs.KnownBytes.{Consumes-whole}
 use Rattle.std.proofs.lemmas.Bool.{ltb-false}
@@ -18,30 +18,33 @@ use Rattle.m88_link.specs.Sizes.{total_size}
 use Rattle.m88_link.specs.declared.object.Object.{Object}
 use Rattle.m88_asm.proofs.Laws.{extents_law, modules_sound}
 use Rattle.m88_asm.specs.Accepted.{IsAcceptedUnit}
+use Rattle.m88_asm.specs.Faults.{IsAssembled}
 use Rattle.m88_asm.specs.Images.{IsUnitImage, unit_start}
 use Rattle.m88_asm.specs.Objects.{objects_of}
-use Rattle.m88_asm.specs.Sources.{IsRefusedProgram}
-use Rattle.m88_asm.specs.Units.{based}
+use Rattle.m88_asm.specs.Units.{based, unit_layout}
 use Rattle.m88_listing.specs.Answer.{Lists, ListsRefused}
 use Rattle.m88_listing.specs.Entries.{numbers_of}
 use Rattle.m88_listing.specs.Listing.{ListsAccepted, entry_lines, listing_lines}
-use Rattle.m88_listing.specs.Refused.{bare_text, line_at, mark_line, refused_text}
+use Rattle.m88_listing.specs.Refused.{line_at, mark_line, refused_text, text_with}
 use Rattle.m88_listing.specs.Inside.Replies.{ListsAs}
-use Rattle.m88_listing.specs.Rows.{numbered_lines, rows_of_unit, source_lines}
+use Rattle.m88_listing.specs.Rows.{Row, numbered_lines, rows_of_unit, source_lines}
 use Rattle.m88_listing.specs.Sums.{sum_line, sum_lines}
 use Rattle.m88_listing.specs.Inside.Slots.{slots_of, walked}
 use Rattle.m88_listing.specs.declared.entries.Entry.{Entry}
 use Rattle.m88_listing.specs.declared.slots.Slot.{Slot}
-use Rattle.m88_listing.proofs.Climbing.{unit_climbs, walked_lines}
+use Rattle.m88_listing.proofs.Climbing.{climbs, unit_climbs, walked_lines}
 use Rattle.m88_listing.proofs.Fitting.{unit_kept}
 use Rattle.m88_listing.proofs.Texts.{text_append}
 use Rattle.m88_listing.proofs.Verdict.{one_text}
 
--- the objects of a unit that is accepted have no more bytes than an image may have
-pub size_fits : (u : Source) → IsAcceptedUnit u → total_size (objects_of u) ≤ most_bytes
-size_fits u accepted =
+-- the objects of a unit that isn't too large have no more bytes than an image may have
+pub size_low : (u : Source) → IsAssembled u → is_too_large (unit_layout u).extents ≡ false → total_size (objects_of u) ≤ most_bytes
+size_low u clean fits =
     ltb-false most_bytes (total_size (objects_of u))
-    (sym (too_large_is (objects_of u) (modules_sound u.modules accepted.assembled)) ∙ ap is_too_large (extents_law u) ∙ accepted.linkable.fits)
+    (sym (too_large_is (objects_of u) (modules_sound u.modules clean)) ∙ ap is_too_large (extents_law u) ∙ fits)
+
+pub size_fits : (u : Source) → IsAcceptedUnit u → total_size (objects_of u) ≤ most_bytes
+size_fits u accepted = size_low u accepted.assembled accepted.linkable.fits
 
 -- the parts of a listing are the listing
 pub listing_whole : (source t1 t2 t3 t4 : List ℕ) (u : Source) (image : ProgramImage) (slots : List Slot) (labels numbers : List Entry)
@@ -58,8 +61,8 @@ listing_whole source t1 t2 t3 t4 u image slots labels numbers objects is accepte
     let b = entry_lines (codes "labels") labels in
     let c = entry_lines (codes "numbers") (numbers_of u) in
     let lines : walked found 1 (lines_of source) slots ≡ a =
-    ap (walked found 1 (lines_of source)) kept ∙ walked_lines found _ source ss (unit_climbs source u is)
-    ∙ ap (λ rows. source_lines rows source) (sym (unit_kept u image accepted own)) in
+    ap (walked found 1 (lines_of source)) kept ∙ walked_lines found source ss (climbs _ _ ss (unit_climbs source u is))
+    ∙ ap (λ rows. source_lines rows source) (sym (unit_kept u found accepted.linkable.disjoint own.bytes)) in
     let before : t3 ≡ text_of_lines ((a ++ b) ++ c) =
     e3 ∙ ap (λ ns. t2 ++ text_of_lines (entry_lines (codes "numbers") ns)) named
     ∙ ap (λ t. t ++ text_of_lines c) (e2 ∙ ap (λ t. t ++ text_of_lines b) (e1 ∙ ap text_of_lines lines) ∙ sym (text_append a b))
@@ -70,9 +73,9 @@ listing_whole source t1 t2 t3 t4 u image slots labels numbers objects is accepte
     ∙ sym (text_append ((a ++ b) ++ c) (sum_lines u))
 
 -- a text that refuses a source has bytes
-pub refusal_some : (source : List ℕ) (r : Refusal) → 0 < length (refused_text source r)
-refusal_some source r =
-    let a = bare_text (take r.line (numbered_lines source)) in
+pub refusal_some : (rows : List Row) (source : List ℕ) (r : Refusal) → 0 < length (refused_text rows source r)
+refusal_some rows source r =
+    let a = text_with rows (take r.line (numbered_lines source)) in
     let mark = mark_line r.column (line_at source r.line) in
     let told = refused_line r.line r.column r.reason in
     omega (
@@ -80,8 +83,11 @@ refusal_some source r =
       length-append mark line_end,
       length-append a (mark ++ line_end),
       length-append (a ++ (mark ++ line_end)) told,
-      length-append ((a ++ (mark ++ line_end)) ++ told) (bare_text (drop r.line (numbered_lines source))),
+      length-append ((a ++ (mark ++ line_end)) ++ told) (text_with rows (drop r.line (numbered_lines source))),
     )
+
+pub text_some : (source text : List ℕ) → ListsRefused source text → 0 < length text
+text_some source text h = subst (λ (t : List ℕ). 0 < length t) (sym h.is_text) (refusal_some h.rows source h.refusal)
 
 -- a reply to what a source gave is one to what it had
 pub reply_given : (before after : Option (List ℕ)) (bytes : List ℕ) (reply : Reply) → before ≡ Some bytes
@@ -98,7 +104,6 @@ by_accepted false source text h = inr h
 pub lists_of : (source : List ℕ) (reply : Reply) → ListsAs source reply → Lists source reply.text.items
 lists_of source reply h = by_accepted reply.accepted source reply.text.items h
 
--- the reply to a source that is refused is the text of that refusal
-pub text_of_reply : (source : List ℕ) (r : Refusal) (reply : Reply) → IsRefusedProgram 0 source r → ListsAs source reply → reply.text.items ≡ refused_text source r
-text_of_reply source r reply refused h = one_text source reply.text.items (refused_text source r) (lists_of source reply h)
-    (inr (record { refusal = r; refused = refused; is_text = refl }))
+-- the reply to a source that is refused is its text
+pub text_of_reply : (source text : List ℕ) (reply : Reply) → ListsRefused source text → ListsAs source reply → reply.text.items ≡ text
+text_of_reply source text reply refused h = one_text source reply.text.items text (lists_of source reply h) (inr refused)

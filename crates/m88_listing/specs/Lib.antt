@@ -4,6 +4,7 @@ pub mod Rows
 pub mod Entries
 pub mod Sums
 pub mod Listing
+pub mod Settled
 pub mod Refused
 pub mod Answer
 pub mod Calls

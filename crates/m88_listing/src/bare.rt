@@ -7,6 +7,9 @@ use crate::column::Column;
 use m88_base::first_line;
 use std::alloc::AllocError;
 
+/// A number that no line has: a source has fewer lines.
+pub(crate) const NO_LINE: u64 = 10_000_000;
+
 /// Adds the first line of what is left of a source to a text and the block behind it, and answers what is left then.
 fn push_next<'a>(
     text: &mut Vec<u8>,

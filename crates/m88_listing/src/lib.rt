@@ -6,6 +6,8 @@
 mod cursor;
 mod entries;
 mod layout;
+mod names;
+mod settled;
 mod slots;
 mod standing;
 mod sums;

@@ -1,19 +1,24 @@
 //! The text for a source: its listing, or the text that refuses it.
-ghost use Rattle.std.specs.Prelude.{◌≢◌, ◌≤◌, IfOk, length};
+ghost use Rattle.std.specs.Prelude.{◌≡◌, ◌≢◌, ◌≤◌, ◌⊎◌, [], IfOk, length, map};
+ghost use Rattle.std.specs.List.{All};
+ghost use Rattle.m88_base.specs.Image.{byte_at};
 ghost use Rattle.m88_parse.specs.Fault.{out_of_memory, reason};
 ghost use Rattle.m88_link.specs.Faults.{memory_fault};
-ghost use Rattle.m88_link.specs.Reasons.{link_reason};
 ghost use Rattle.m88_asm.specs.Fault.{memory_ran_out};
 ghost use Rattle.m88_asm.specs.Reasons.{asm_reason};
-ghost use Rattle.m88_asm.specs.Sources.{IsRefusedProgram};
+ghost use Rattle.m88_asm.specs.Sources.{IsRefusedSource};
 ghost use Rattle.m88_base.specs.Reading.{most_input};
+ghost use Rattle.m88_listing.specs.Answer.{IsRefusedWith};
 ghost use Rattle.m88_listing.specs.Listing.{ListsAccepted};
-ghost use Rattle.m88_listing.specs.Inside.Replies.{IsBuilt, ListsAs};
+ghost use Rattle.m88_listing.specs.Inside.Replies.{IsBuilt, IsOfName, IsUnlinkedUnit, ListsAs};
+ghost use Rattle.m88_listing.specs.Inside.Slots.{Climb, IsSlot, kept_row};
 
 use crate::entries::{labels, numbers, push_entries};
 use crate::layout::slots;
 use crate::refused::push_refusal;
 use crate::rows::push_source;
+use crate::settled::settled_image;
+use crate::slots::Slot;
 use crate::standing::standings;
 use crate::sums::push_sums;
 use m88_asm::{AsmFault, AsmKind, assemble};
@@ -22,11 +27,37 @@ use m88_link::{LinkFault, LinkKind, Object, link, stand};
 use m88_parse::{ParseFault, ParseKind, Unit, parse};
 use std::alloc::Global;
 
-/// How many times the bytes of its source a text has room for from the start. Few listings take more.
-const GROWTH: usize = 4;
+/// How many times the bytes of a source there is room for from the start, as much as most listings take.
+const ROOM: usize = 4;
 
-/// The reply that refuses a source at a line and a column, both from 1, for a reason.
+/// The reply that refuses a source at a line and a column, both from 1, for a reason, with what is kept of the rows that
+/// it shows.
 fn refuse(
+    alloc: Global,
+    source: &[u8],
+    slots: &[Slot],
+    image: &Image,
+    line: u32,
+    column: u32,
+    reason: &[u8],
+) -> Result<Reply, NoMemory>
+    requires short { length source.now ≤ most_input }
+    requires each { All (IsSlot (byte_at image.now)) slots.now }
+    requires climb { Climb 1 slots.now }
+    ensures { IsRefusedWith source.now
+        (record { line = line; column = column; reason = reason.now })
+        (map (kept_row (byte_at image.now)) slots.now) → IfOk result (ListsAs source.now) }
+{
+    let mut text = Vec::with_capacity(alloc, ROOM * source.len())?;
+    push_refusal(&mut text, source, slots, image, line, column, reason)?;
+    Ok(Reply {
+        accepted: false,
+        text,
+    })
+}
+
+/// The same without rows.
+fn refuse_bare(
     alloc: Global,
     source: &[u8],
     line: u32,
@@ -34,22 +65,17 @@ fn refuse(
     reason: &[u8],
 ) -> Result<Reply, NoMemory>
     requires { length source.now ≤ most_input }
-    ensures { IsRefusedProgram 0 source.now
-        (record { line = line; column = column; reason = reason.now })
+    ensures { IsRefusedWith source.now
+        (record { line = line; column = column; reason = reason.now }) []
         → IfOk result (ListsAs source.now) }
 {
-    let mut text = Vec::with_capacity(alloc, GROWTH * source.len())?;
-    push_refusal(&mut text, source, line, column, reason)?;
-    Ok(Reply {
-        accepted: false,
-        text,
-    })
+    refuse(alloc, source, &[], &Image::new(alloc), line, column, reason)
 }
 
 /// The reply for a fault of the source's lines, unless the fault is that memory ran out.
 fn unread(alloc: Global, source: &[u8], fault: ParseFault) -> Result<Reply, NoMemory>
     requires { length source.now ≤ most_input }
-    ensures refused { IsRefusedProgram 0 source.now
+    ensures refused { IsRefusedSource 0 source.now
         (record { line = fault.line; column = fault.col; reason = reason fault.kind })
         → IfOk result (ListsAs source.now) }
     ensures told { IfOk result (λ _. fault ≢ out_of_memory) }
@@ -57,7 +83,7 @@ fn unread(alloc: Global, source: &[u8], fault: ParseFault) -> Result<Reply, NoMe
     if fault.kind == ParseKind::Memory {
         return Err(NoMemory);
     }
-    refuse(
+    refuse_bare(
         alloc,
         source,
         fault.line,
@@ -69,7 +95,7 @@ fn unread(alloc: Global, source: &[u8], fault: ParseFault) -> Result<Reply, NoMe
 /// The reply for a fault of the unit's statements, unless the fault is that memory ran out.
 fn unassembled(alloc: Global, source: &[u8], fault: AsmFault) -> Result<Reply, NoMemory>
     requires { length source.now ≤ most_input }
-    ensures refused { IsRefusedProgram 0 source.now
+    ensures refused { IsRefusedSource 0 source.now
         (record { line = fault.line; column = fault.col; reason = asm_reason fault.kind })
         → IfOk result (ListsAs source.now) }
     ensures told { IfOk result (λ _. fault ≢ memory_ran_out) }
@@ -78,22 +104,62 @@ fn unassembled(alloc: Global, source: &[u8], fault: AsmFault) -> Result<Reply, N
         return Err(NoMemory);
     }
     let reason = fault.kind.to_string(alloc)?;
-    refuse(alloc, source, fault.line, fault.col, reason.as_bytes())
+    refuse_bare(alloc, source, fault.line, fault.col, reason.as_bytes())
+}
+
+/// The reply for a fault of the unit's layout by which a name or a distance is refused, with the rows of what can be
+/// carried out.
+fn unnamed(
+    alloc: Global,
+    source: &[u8],
+    unit: &Unit,
+    objects: &[Object],
+    fault: LinkFault,
+) -> Result<Reply, NoMemory>
+    requires short { length source.now ≤ most_input }
+    requires unlinked { IsUnlinkedUnit source.now unit.now objects.now fault }
+    requires kind { IsOfName fault.kind }
+    ensures { IfOk result (ListsAs source.now) }
+{
+    let placements = stand(alloc, objects)?;
+    let image = settled_image(alloc, objects, placements.as_slice())?;
+    let standings = standings(alloc, unit, placements.as_slice())?;
+    let slots = slots(alloc, standings.as_slice())?;
+    let reason = fault.kind.to_string(alloc)?;
+    refuse(
+        alloc,
+        source,
+        slots.as_slice(),
+        &image,
+        fault.line,
+        fault.col,
+        reason.as_bytes(),
+    )
 }
 
 /// The reply for a fault of the unit's layout, unless the fault is that memory ran out.
-fn unlinked(alloc: Global, source: &[u8], fault: LinkFault) -> Result<Reply, NoMemory>
-    requires { length source.now ≤ most_input }
-    ensures refused { IsRefusedProgram 0 source.now
-        (record { line = fault.line; column = fault.col; reason = link_reason fault.kind })
-        → IfOk result (ListsAs source.now) }
-    ensures told { IfOk result (λ _. fault ≢ memory_fault) }
+fn unlinked(
+    alloc: Global,
+    source: &[u8],
+    unit: &Unit,
+    objects: &[Object],
+    fault: LinkFault,
+) -> Result<Reply, NoMemory>
+    requires short { length source.now ≤ most_input }
+    requires unlinked { (fault ≡ memory_fault)
+        ⊎ IsUnlinkedUnit source.now unit.now objects.now fault }
+    ensures { IfOk result (ListsAs source.now) }
 {
-    if fault.kind == LinkKind::Memory {
-        return Err(NoMemory);
+    match fault.kind {
+        LinkKind::Memory => Err(NoMemory),
+        LinkKind::TooLarge | LinkKind::Overlap(_) => {
+            let reason = fault.kind.to_string(alloc)?;
+            refuse_bare(alloc, source, fault.line, fault.col, reason.as_bytes())
+        }
+        LinkKind::Duplicate { .. } | LinkKind::Undefined(_) | LinkKind::TooFar(_) => {
+            unnamed(alloc, source, unit, objects, fault)
+        }
     }
-    let reason = fault.kind.to_string(alloc)?;
-    refuse(alloc, source, fault.line, fault.col, reason.as_bytes())
 }
 
 /// The listing of a source that is accepted, by its unit, the objects of that and their image.
@@ -113,7 +179,7 @@ fn listing(
     let slots = slots(alloc, standings.as_slice())?;
     let labels = labels(alloc, standings.as_slice())?;
     let numbers = numbers(alloc, standings.as_slice())?;
-    let mut text = Vec::with_capacity(alloc, GROWTH * source.len())?;
+    let mut text = Vec::with_capacity(alloc, ROOM * source.len())?;
     push_source(&mut text, source, slots.as_slice(), image)?;
     push_entries(&mut text, b"labels", labels.as_slice())?;
     push_entries(&mut text, b"numbers", numbers.as_slice())?;
@@ -142,6 +208,6 @@ pub(crate) fn reply_to(alloc: Global, source: &[u8]) -> Result<Reply, NoMemory>
                 text,
             })
         }
-        Err(fault) => unlinked(alloc, source, fault),
+        Err(fault) => unlinked(alloc, source, &unit, &objects, fault),
     }
 }

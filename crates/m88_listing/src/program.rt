@@ -6,14 +6,12 @@ ghost use Rattle.m88_base.specs.Causes.{Rose};
 ghost use Rattle.m88_base.specs.OneVerdict.{HasOneFaultUnless};
 ghost use Rattle.m88_base.specs.Outside.{AppendsPart, GivesAll, IsWhole, TakesAtMost, TakesExactly};
 ghost use Rattle.m88_base.specs.Reading.{ReadsSource, most_input};
-ghost use Rattle.m88_base.specs.Refusal.{Refusal};
 ghost use Rattle.m88_base.specs.Status.{Answers, IsAnswered, IsOfReading, WritesNothing};
 ghost use Rattle.m88_asm.specs.Sources.{IsProgramSource, IsRefusedProgram};
 ghost use Rattle.m88_listing.specs.Answer.{Lists, ListsRefused};
 ghost use Rattle.m88_listing.specs.Calls.{HasSource, IsListed};
 ghost use Rattle.m88_listing.specs.Laws.{EachLineStandsOnce, EachShowsItsImage};
 ghost use Rattle.m88_listing.specs.Listing.{ListsAccepted};
-ghost use Rattle.m88_listing.specs.Refused.{refused_text};
 ghost use Rattle.m88_listing.specs.Inside.Replies.{ListsAs};
 
 use crate::listing::reply_to;
@@ -56,10 +54,9 @@ pub fn m88list<S: Source, K: Sink>(
         → IsListed (S.left source.old) (S.left source.new) ListsRefused
         (λ text. Appends (K.held sink.old) (K.held sink.new) text
         × CallsWithin (length text) (K.calls sink.old) (K.calls sink.new)) }
-    ensures refusal { (bytes : List ℕ) (refusal : Refusal) → IsRefusedProgram 0 bytes refusal
+    ensures refusal { (bytes text : List ℕ) → ListsRefused bytes text
         → S.left source.old ≡ Some bytes → S.left source.new ≡ Some []
-        → IsWhole (K.held sink.old) (K.held sink.new) (refused_text bytes refusal)
-        → result ≡ Status.Refused }
+        → IsWhole (K.held sink.old) (K.held sink.new) text → result ≡ Status.Refused }
 
     // The sink failed, and was given a front of the text that lacks at least one byte, by no more calls than the
     // text has bytes.

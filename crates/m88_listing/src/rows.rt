@@ -1,13 +1,14 @@
 //! The lines of a source with what they put where.
-ghost use Rattle.std.specs.Prelude.{◌≡◌, ◌+◌, ◌≤◌, ◌<◌, ◌^◌, ◌++◌, length, OnOk};
+ghost use Rattle.std.specs.Prelude.{◌≡◌, ◌+◌, ◌≤◌, ◌<◌, ◌^◌, ◌++◌, length, IfOk, OnOk};
 ghost use Rattle.std.specs.List.{All};
 ghost use Rattle.m88_base.specs.Image.{byte_at};
 ghost use Rattle.m88_base.specs.Lines.{lines_of, text_of_lines};
 ghost use Rattle.m88_base.specs.Reading.{most_input};
 ghost use Rattle.m88_listing.specs.Rows.{further_from, row_lines};
-ghost use Rattle.m88_listing.specs.Inside.Slots.{IsSlot, kept_row, walked};
+ghost use Rattle.m88_listing.specs.Inside.Pushed.{PushesRows};
+ghost use Rattle.m88_listing.specs.Inside.Slots.{Climb, IsSlot, kept_row, walked};
 
-use crate::bare::push_lines;
+use crate::bare::{NO_LINE, push_lines};
 use crate::column::Column;
 use crate::columns::{MOST_SHOWN, push_counted, push_further, push_shown, push_value};
 use crate::slots::{Shown, Slot};
@@ -73,6 +74,41 @@ fn push_bytes(
     Ok(())
 }
 
+/// Appends the lines for what is left of a source up to the line that has a number, with what is kept of their rows, and
+/// answers what is left then.
+pub(crate) fn push_part<'a>(
+    text: &mut Vec<u8>,
+    column: &mut Column,
+    source: &'a [u8],
+    slots: &[Slot],
+    image: &Image,
+    until: u64,
+) -> Result<&'a [u8], AllocError>
+    requires short { column.old + length source.now < 10 ^ 7 }
+    requires each { All (IsSlot (byte_at image.now)) slots.now }
+    requires climb { Climb column.old slots.now }
+    requires forward { column.old ≤ until }
+    ensures { IfOk result (λ left. PushesRows (byte_at image.now) slots.now source.now column.old
+        until column.new text.old.items text.new.items left.now) }
+{
+    let mut rest = source;
+    for slot in slots {
+        let stop = u64::from(slot.line).min(until);
+        let here = push_lines(text, column, rest, stop)?;
+        if stop == until {
+            return Ok(here);
+        }
+        if here.is_empty() {
+            return Ok(here);
+        }
+        let (line, behind) = first_line(here);
+        push_row(text, column.number(), line, slot, image)?;
+        column.count_on();
+        rest = behind;
+    }
+    push_lines(text, column, rest, until)
+}
+
 /// Appends the lines for all lines of a source, with what is kept of the rows of its image.
 pub(crate) fn push_source(
     text: &mut Vec<u8>,
@@ -82,22 +118,11 @@ pub(crate) fn push_source(
 ) -> Result<(), AllocError>
     requires short { length source.now ≤ most_input }
     requires each { All (IsSlot (byte_at image.now)) slots.now }
+    requires climb { Climb 1 slots.now }
     ensures { OnOk result (text.new.items ≡ text.old.items
         ++ text_of_lines (walked (byte_at image.now) 1 (lines_of source.now) slots.now)) }
 {
-    let mut rest = source;
     let mut column = Column::new(1);
-    for slot in slots {
-        let here = push_lines(text, &mut column, rest, u64::from(slot.line))?;
-        if here.is_empty() {
-            return Ok(());
-        }
-        let (line, behind) = first_line(here);
-        push_row(text, column.number(), line, slot, image)?;
-        column.count_on();
-        rest = behind;
-    }
-    // No line has the number 0.
-    push_lines(text, &mut column, rest, 0)?;
+    push_part(text, &mut column, source, slots, image, NO_LINE)?;
     Ok(())
 }

@@ -6,8 +6,14 @@ use Rattle.m88_base.specs.declared.reply.Reply.{Reply}
 use Rattle.m88_parse.specs.Language.Units.{IsUnit}
 use Rattle.m88_parse.specs.WellFormed.{IsWellFormed}
 use Rattle.m88_parse.specs.declared.unit.Unit.{Unit as Source}
+use Rattle.m88_link.specs.Refusal.{IsRefused}
+use Rattle.m88_link.specs.declared.fault.LinkFault.{LinkFault}
+use Rattle.m88_link.specs.declared.fault.LinkKind.{LinkKind}
+use Rattle.m88_link.specs.declared.fault.LinkKind.TheVariants as kind
 use Rattle.m88_link.specs.declared.object.Object.{Object}
 use Rattle.m88_asm.specs.Accepted.{IsAcceptedUnit}
+use Rattle.m88_asm.specs.Faults.{IsAssembled}
+use Rattle.m88_asm.specs.Units.{unit_layout}
 use Rattle.m88_asm.specs.Images.{IsUnitImage}
 use Rattle.m88_asm.specs.Objects.{objects_of}
 use Rattle.m88_listing.specs.Answer.{ListsRefused}
@@ -24,3 +30,18 @@ pub record IsBuilt (source : List ℕ) (unit : Source) (objects : List Object) (
   pub are_objects : objects ≡ objects_of unit
   pub accepted : IsAcceptedUnit unit
   pub is_image : IsUnitImage unit image
+
+-- a source has a unit whose statements meet no fault, these are its objects, and its layout is refused so
+pub record IsUnlinkedUnit (source : List ℕ) (unit : Source) (objects : List Object) (fault : LinkFault) : Type 0 where
+  pub is_unit : IsUnit source unit
+  pub formed : IsWellFormed unit
+  pub are_objects : objects ≡ objects_of unit
+  pub assembled : IsAssembled unit
+  pub is_refused : IsRefused (unit_layout unit) fault
+
+-- a name or a distance is refused
+abbrev pub IsOfName : LinkKind → Type 0
+IsOfName (kind.Duplicate name first) = Unit {0}
+IsOfName (kind.Undefined name) = Unit {0}
+IsOfName (kind.TooFar distance) = Unit {0}
+IsOfName _ = ⊥

@@ -1,5 +1,5 @@
 -- What is kept of a row while the image has its bytes, and the lines as they are written from the first on.
-use Rattle.std.specs.Prelude.{ℕ, ◌≡◌, ◌+◌, ◌<◌, ◌≤◌, ◌^◌, ◌==◌, if◌then◌else◌, List, [], ◌∷◌, ◌++◌, flat_map, length, map, Option, IsSome, slice_index_or, unwrap_or}
+use Rattle.std.specs.Prelude.{ℕ, ◌≡◌, ◌+◌, ◌<◌, ◌≤◌, ◌^◌, ◌==◌, if◌then◌else◌, List, [], ◌∷◌, ◌++◌, flat_map, length, map, nat_lt, Option, IsSome, slice_index_or, unwrap_or}
 use Rattle.std.specs.List.{range_with_len}
 use Rattle.std.specs.Option.{option_map_or}
 use Rattle.m88_base.specs.Image.{most_bytes}
@@ -93,6 +93,16 @@ walked found number (line ∷ lines) [] = bare_line number line ∷ walked found
 walked found number (line ∷ lines) (s ∷ ss) =
     if s.line == number then row_lines number line (kept_row found s) ++ walked found (number + 1) lines ss
     else bare_line number line ∷ walked found (number + 1) lines (s ∷ ss)
+
+-- slots stand in the order of their lines, each in one of its own, from a number on
+abbrev pub Climb : ℕ → List Slot → Type 0
+Climb from [] = Unit {0}
+Climb from (s ∷ ss) = (from ≤ s.line) × Climb (s.line + 1) ss
+
+-- the slots of the lines from a number on
+abbrev pub slots_behind : ℕ → List Slot → List Slot
+slots_behind number [] = []
+slots_behind number (s ∷ ss) = if nat_lt s.line number then slots_behind number ss else s ∷ ss
 
 -- a statement can be laid out, its section has room for its bytes, and these lie among the addresses
 pub record StandsWithin (b : Placement Module) (r : Located) : Type 0 where

@@ -2,7 +2,7 @@
 use Rattle.std.proofs.Common.{◌≡◌, ◌+◌, ◌-◌, ◌≤◌, ◌++◌, drop, length, take}
 use Rattle.std.specs.List.{enumerate_from}
 use Rattle.m88_base.specs.Lines.{lines_of}
-use Rattle.m88_listing.specs.Refused.{bare_text}
+use Rattle.m88_listing.specs.Inside.Pushed.{bare_text}
 use Rattle.m88_listing.proofs.bare.push_lines.Given as goal
 
 abbrev pub invariant-loop-column : goal.invariant-loop-column

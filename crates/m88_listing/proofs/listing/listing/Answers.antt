@@ -15,10 +15,11 @@ use Rattle.m88_asm.specs.Objects.{objects_of}
 use Rattle.m88_asm.proofs.Laws.{modules_sound}
 use Rattle.m88_listing.specs.Entries.{AreInOrder, entries_in, labels_of, numbers_of}
 use Rattle.m88_listing.specs.Sums.{sum_line}
-use Rattle.m88_listing.specs.Inside.Slots.{IsSlot, ModuleFits, slots_of, walked}
+use Rattle.m88_listing.specs.Inside.Slots.{Climb, IsSlot, ModuleFits, slots_of, walked}
 use Rattle.m88_listing.specs.declared.entries.Entry.{Entry}
 use Rattle.m88_listing.specs.declared.slots.Slot.{Slot}
-use Rattle.m88_listing.proofs.Fitting.{unit_fits, unit_slots}
+use Rattle.m88_listing.proofs.Climbing.{climbs, unit_climbs}
+use Rattle.m88_listing.proofs.Fitting.{accepted_laid, unit_fits, unit_slots}
 use Rattle.m88_listing.proofs.Whole.{listing_whole, size_fits}
 use Rattle.m88_listing.proofs.listing.listing.Goals as goal
 
@@ -46,7 +47,7 @@ pub slots-requires : goal.slots-requires
 slots-requires c =
     let u = c.args.unit.now in
     subst (λ (bs : List (Placement Module)). All ModuleFits bs) (sym (c.as_slice-2.ensures.value ∙ c.in_ok-standings.ensures))
-    (All-from_recursion ModuleFits (based u) (unit_fits u c.args.image.now c.requires.accepted.formed c.requires.accepted.accepted c.requires.accepted.is_image))
+    (All-from_recursion ModuleFits (based u) (unit_fits u c.args.image.now (accepted_laid u c.args.image.now c.requires.accepted.formed c.requires.accepted.accepted c.requires.accepted.is_image)))
 
 pub push_source-requires-clause-each : goal.push_source-requires-clause-each
 push_source-requires-clause-each c =
@@ -56,7 +57,14 @@ push_source-requires-clause-each c =
     c.as_slice-5.ensures.value ∙ c.in_ok-slots.ensures ∙ ap slots_of (c.as_slice-2.ensures.value ∙ c.in_ok-standings.ensures) in
     subst (λ (ss : List Slot). All (IsSlot found) ss) (sym kept)
     (All-from_recursion (IsSlot found) (slots_of (based u))
-    (unit_slots u c.args.image.now c.requires.accepted.formed c.requires.accepted.accepted c.requires.accepted.is_image))
+    (unit_slots u c.args.image.now (accepted_laid u c.args.image.now c.requires.accepted.formed c.requires.accepted.accepted c.requires.accepted.is_image)))
+
+pub push_source-requires-clause-climb : goal.push_source-requires-clause-climb
+push_source-requires-clause-climb c =
+    let u = c.args.unit.now in
+    let kept : c.as_slice-5.result.now ≡ slots_of (based u) =
+    c.as_slice-5.ensures.value ∙ c.in_ok-slots.ensures ∙ ap slots_of (c.as_slice-2.ensures.value ∙ c.in_ok-standings.ensures) in
+    subst (λ (ss : List Slot). Climb 1 ss) (sym kept) (climbs 1 _ (slots_of (based u)) (unit_climbs c.args.source.now u c.requires.accepted.is_unit))
 
 pub returns : goal.returns
 returns c =

@@ -4,29 +4,29 @@ use Rattle.m88_base.proofs.Laws.{answered, not_part, not_whole, only_refused}
 use Rattle.m88_base.specs.Outside.{AppendsPart}
 use Rattle.m88_asm.proofs.Laws.{not_linked, one_program_verdict}
 use Rattle.m88_asm.specs.Sources.{IsProgramSource}
-use Rattle.m88_listing.specs.Refused.{refused_text}
 use Rattle.m88_listing.proofs.Numbering.{each_line_stands_once}
 use Rattle.m88_listing.proofs.Showing.{each_shows_its_image}
-use Rattle.m88_listing.proofs.Verdict.{one_text}
-use Rattle.m88_listing.proofs.Whole.{lists_of, refusal_some, reply_given, text_of_reply}
+use Rattle.m88_listing.proofs.Verdict.{one_text, refused_plainly}
+use Rattle.m88_listing.proofs.Whole.{lists_of, reply_given, text_of_reply, text_some}
 use Rattle.m88_listing.proofs.program.m88list.Goals as goal
 
 pub returns-then-not-is_empty-clause-refusal : goal.returns-then-not-is_empty-clause-refusal
-returns-then-not-is_empty-clause-refusal g c = λ bytes refusal refused had left whole.
-    absurd (not_whole _ (refused_text bytes refusal) (refusal_some bytes refusal) whole)
+returns-then-not-is_empty-clause-refusal g c = λ bytes text refused had left whole.
+    absurd (not_whole _ text (text_some bytes text refused) whole)
 
 pub returns-in-Err-clause-refusal : goal.returns-in-Err-clause-refusal
-returns-in-Err-clause-refusal g c = λ bytes refusal refused had left whole.
-    absurd (not_whole _ (refused_text bytes refusal) (refusal_some bytes refusal) whole)
+returns-in-Err-clause-refusal g c = λ bytes text refused had left whole.
+    absurd (not_whole _ text (text_some bytes text refused) whole)
 
 pub returns-in-Ok-clause-refusal : goal.returns-in-Ok-clause-refusal
-returns-in-Ok-clause-refusal g c = λ bytes refusal refused had left whole.
+returns-in-Ok-clause-refusal g c = λ bytes text refused had left whole.
     let replies = reply_given _ _ bytes c.in-Ok.reply had c.in-Ok.ensures.ok in
-    let text = text_of_reply bytes refusal c.in-Ok.reply refused replies in
+    let same = text_of_reply bytes text c.in-Ok.reply refused replies in
     only_refused c.write_to.result c.write_to.ensures.written
-    (λ e. let done = c.write_to.ensures.done e in not_linked 0 bytes refusal (rw done.0 at replies).accepted refused)
-    (λ e. not_part _ _ (refused_text bytes refusal)
-    (subst (λ t. AppendsPart (g.K.Sink.held c.args.sink.now) (g.K.Sink.held c.write_to.new.sink) t) text (c.write_to.ensures.part e)) whole)
+    (λ e. let done = c.write_to.ensures.done e in
+    not_linked 0 bytes refused.refusal (rw done.0 at replies).accepted (refused_plainly bytes refused.refusal refused.rows refused.refused))
+    (λ e. not_part _ _ text
+    (subst (λ t. AppendsPart (g.K.Sink.held c.args.sink.now) (g.K.Sink.held c.write_to.new.sink) t) same (c.write_to.ensures.part e)) whole)
 
 pub returns-in-Ok-clause-complete : goal.returns-in-Ok-clause-complete
 returns-in-Ok-clause-complete g c = λ bytes none had unbroken unfailing.
@@ -35,7 +35,7 @@ returns-in-Ok-clause-complete g c = λ bytes none had unbroken unfailing.
     (λ e. let done = c.write_to.ensures.done e in (rw done.0 at replies).accepted)
     (λ e. let refused = c.write_to.ensures.refused e in
     let told = rw refused.0 at replies in
-    λ accepted. not_linked 0 bytes told.refusal accepted told.refused)
+    λ accepted. not_linked 0 bytes told.refusal accepted (refused_plainly bytes told.refusal told.rows told.refused))
     (λ e. unfailing (c.write_to.ensures.sink_fault e))
 
 pub returns-in-Ok-clause-done : goal.returns-in-Ok-clause-done
