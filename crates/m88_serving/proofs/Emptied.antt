@@ -15,10 +15,10 @@ use Rattle.m88_isa.specs.Bus.{waits_for}
 use Rattle.m88_isa.specs.Triples.{access_in, accesses_in, is_valid_triple}
 use Rattle.m88_monitor.specs.Serving.{without_bit}
 use Rattle.m88_scoreboard.specs.Registers.{none_waits}
-use Rattle.m88_serving.specs.Faults.{loaded_set, triple_of_record}
+use Rattle.m88_serving.specs.Faults.{awaited_set, triple_of_record}
 use Rattle.m88_serving.specs.Laws.{EachLeavesNoneWaiting}
 use Rattle.m88_serving.specs.Serving.{serving_of_case}
-use Rattle.m88_serving.specs.Inside.Steps.{Held, held_after, held_behind, held_in, with_load}
+use Rattle.m88_serving.specs.Inside.Steps.{Held, held_after, held_behind, handled, with_load}
 use Rattle.m88_serving.proofs.Held.{all_held, served, unserved}
 use Rattle.m88_serving.proofs.Making.{IsFaultless, faultless_record}
 use Rattle.m88_serving.proofs.Marked.{else_is, loads_all, then_is}
@@ -158,5 +158,5 @@ each_leaves_none_waiting = λ input told accepted.
     let r : Record = told.fault in
     let fits : IsFaultless r = faultless_record r (accepted_record input told accepted) in
     ap (λ (h : Held). h.ssbr) (all_held (serving_of_case told))
-    ∙ emptied (triple_of_record 0 r) (triple_of_record 1 r) (triple_of_record 2 r) (held_in (serving_of_case told))
-    (eqb-true r.ssbr (loaded_set r) fits.loaded)
+    ∙ emptied (triple_of_record 0 r) (triple_of_record 1 r) (triple_of_record 2 r) (handled (serving_of_case told))
+    (eqb-true r.ssbr (awaited_set r) fits.loaded)

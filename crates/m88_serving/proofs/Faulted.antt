@@ -25,11 +25,11 @@ use Rattle.m88_isa.specs.Triples.{access_in, accesses_in, dmt_of, is_valid_tripl
 use Rattle.m88_isa.specs.declared.planned.Access.{Access}
 use Rattle.m88_report.specs.Report.{status_line, triple_line, word_line}
 use Rattle.m88_serving.proofs.Readback.{case_read, fault_lines, status_of_record, status_read, status_text, triple_read, triple_text, word_text, words_read}
-use Rattle.m88_serving.proofs.Touched.{IsTold, transactions_told}
+use Rattle.m88_serving.proofs.Touched.{IsCalled, transactions_told}
 use Rattle.m88_serving.proofs.Verdicts.{accepted}
 use Rattle.m88_serving.specs.Cases.{Case, case_in, record_with}
-use Rattle.m88_serving.specs.Faults.{at_first, fault_at, first_behind, first_line, has_datum, has_odd_access, has_odd_address, is_dmt, is_status, is_unempty, loaded_set, record_fault, triple_of_record}
-use Rattle.m88_serving.specs.Laws.{AreWordsOf, EachFaultIsServed, HasWords, IsTripleOfWords, shown_fault}
+use Rattle.m88_serving.specs.Faults.{at_first, fault_of_kind, first_behind, first_line, has_datum, has_odd_access, has_odd_address, is_dmt, is_status, is_unempty, awaited_set, record_fault, triple_of_record}
+use Rattle.m88_serving.specs.Laws.{AreWordsOf, EachFaultIsServed, IsRecordOfWords, IsTripleOfWords, shown_fault}
 use Rattle.m88_serving.specs.Served.{IsServed, served_text}
 use Rattle.m88_serving.specs.Serving.{serving_with}
 use Rattle.m88_serving.specs.declared.fault.ServeKind.TheVariants as kind
@@ -45,7 +45,7 @@ fit_none : IsFit no_triple
 unfolding has_odd_access has_odd_address has_datum is_unempty
 fit_none = record { access = refl; address = refl; datum = refl; empty = refl }
 
-fit_of : (a : Access) → IsTold a → IsFit (triple_of a)
+fit_of : (a : Access) → IsCalled a → IsFit (triple_of a)
 unfolding has_odd_access has_odd_address has_datum is_unempty
 fit_of a told =
     let valid : is_valid_triple (triple_of a) ≡ true = valid_of a told.made in
@@ -59,7 +59,7 @@ fit_of a told =
       empty = λ i. not (valid i) && not (dmt_of a == 0 && a.value == 0 && a.addr == 0);
     }
   where
-    no_datum : (a : Access) → IsTold a → (true && not a.write && not (a.value == 0)) ≡ false
+    no_datum : (a : Access) → IsCalled a → (true && not a.write && not (a.value == 0)) ≡ false
     no_datum a told = by_test a.write
         (λ w. rw w refl)
         (λ r. let none : (a.value == 0) ≡ true = ap (λ n. n == 0) (told.made.3 r) in rw (r, none) refl)
@@ -74,33 +74,33 @@ fits_status false false = refl
 
 -- a record of these transactions without a fault
 no_fault : (r : Record) → is_status r.epsr ≡ true → IsFit (triple_of_record 0 r) → IsFit (triple_of_record 1 r) → IsFit (triple_of_record 2 r)
-    → first_behind r ≡ None → r.ssbr ≡ loaded_set r → record_fault r ≡ None
+    → first_behind r ≡ None → r.ssbr ≡ awaited_set r → record_fault r ≡ None
 unfolding record_fault
 no_fault r status f0 f1 f2 order ssbr =
-    let same : (r.ssbr == loaded_set r) ≡ true = grind (arith, nat_tests) in
-    λ i. option_or (fault_at kind.Epsr (at_first (status i)))
-    (option_or (fault_at kind.Access (first_line (f0.access i) (f1.access i) (f2.access i)))
-    (option_or (fault_at kind.Address (first_line (f0.address i) (f1.address i) (f2.address i)))
-    (option_or (fault_at kind.Datum (first_line (f0.datum i) (f1.datum i) (f2.datum i)))
-    (option_or (fault_at kind.Empty (first_line (f0.empty i) (f1.empty i) (f2.empty i)))
-    (option_or (fault_at kind.Order (order i))
-    (fault_at kind.Ssbr (at_first (same i))))))))
+    let same : (r.ssbr == awaited_set r) ≡ true = grind (arith, nat_tests) in
+    λ i. option_or (fault_of_kind kind.Epsr (at_first (status i)))
+    (option_or (fault_of_kind kind.Access (first_line (f0.access i) (f1.access i) (f2.access i)))
+    (option_or (fault_of_kind kind.Address (first_line (f0.address i) (f1.address i) (f2.address i)))
+    (option_or (fault_of_kind kind.Datum (first_line (f0.datum i) (f1.datum i) (f2.datum i)))
+    (option_or (fault_of_kind kind.Empty (first_line (f0.empty i) (f1.empty i) (f2.empty i)))
+    (option_or (fault_of_kind kind.Order (order i))
+    (fault_of_kind kind.Ssbr (at_first (same i))))))))
 
 -- of up to three accesses
-at_most_three : (xs : List Access) (r : Record) → length xs ≤ 3 → All IsTold xs → is_status r.epsr ≡ true → r.triples ≡ triples_of xs
+at_most_three : (xs : List Access) (r : Record) → length xs ≤ 3 → All IsCalled xs → is_status r.epsr ≡ true → r.triples ≡ triples_of xs
     → r.ssbr ≡ register_bits (waits_for xs) → record_fault r ≡ None
 at_most_three [] r few told status are ssbr =
     subst (λ ts. record_fault (record r { triples = ts }) ≡ None) (sym are)
     (no_fault (record r { triples = triples_of [] }) status fit_none fit_none fit_none refl ssbr)
 at_most_three (a ∷ []) r few told status are ssbr =
-    let first : IsTold a = All-head IsTold a [] told in
+    let first : IsCalled a = All-head IsCalled a [] told in
     let valid : is_valid_triple (triple_of a) ≡ true = valid_of a first.made in
     subst (λ ts. record_fault (record r { triples = ts }) ≡ None) (sym are)
     (no_fault (record r { triples = triples_of (a ∷ []) }) status (fit_of a first) fit_none fit_none refl
     (ssbr ∙ sym (ap (λ ys. register_bits (waits_for ys)) (let e : accesses_in (triples_of (a ∷ [])) ≡ a ∷ [] = rw (valid, told_of a first.made) refl in e))))
 at_most_three (a ∷ b ∷ []) r few told status are ssbr =
-    let first : IsTold a = All-head IsTold a (b ∷ []) told in
-    let second : IsTold b = All-head IsTold b [] (All-tail IsTold a (b ∷ []) told) in
+    let first : IsCalled a = All-head IsCalled a (b ∷ []) told in
+    let second : IsCalled b = All-head IsCalled b [] (All-tail IsCalled a (b ∷ []) told) in
     let va : is_valid_triple (triple_of a) ≡ true = valid_of a first.made in
     let vb : is_valid_triple (triple_of b) ≡ true = valid_of b second.made in
     subst (λ ts. record_fault (record r { triples = ts }) ≡ None) (sym are)
@@ -109,10 +109,10 @@ at_most_three (a ∷ b ∷ []) r few told status are ssbr =
     (ssbr ∙ sym (ap (λ ys. register_bits (waits_for ys))
     (let e : accesses_in (triples_of (a ∷ b ∷ [])) ≡ a ∷ b ∷ [] = rw (va, told_of a first.made, vb, told_of b second.made) refl in e))))
 at_most_three (a ∷ b ∷ c ∷ []) r few told status are ssbr =
-    let rest : All IsTold (b ∷ c ∷ []) = All-tail IsTold a (b ∷ c ∷ []) told in
-    let first : IsTold a = All-head IsTold a (b ∷ c ∷ []) told in
-    let second : IsTold b = All-head IsTold b (c ∷ []) rest in
-    let third : IsTold c = All-head IsTold c [] (All-tail IsTold b (c ∷ []) rest) in
+    let rest : All IsCalled (b ∷ c ∷ []) = All-tail IsCalled a (b ∷ c ∷ []) told in
+    let first : IsCalled a = All-head IsCalled a (b ∷ c ∷ []) told in
+    let second : IsCalled b = All-head IsCalled b (c ∷ []) rest in
+    let third : IsCalled c = All-head IsCalled c [] (All-tail IsCalled b (c ∷ []) rest) in
     let va : is_valid_triple (triple_of a) ≡ true = valid_of a first.made in
     let vb : is_valid_triple (triple_of b) ≡ true = valid_of b second.made in
     let vc : is_valid_triple (triple_of c) ≡ true = valid_of c third.made in
@@ -133,7 +133,7 @@ sound_record : (p : Program) (named : ℕ → Bool) (limit : ℕ) (m : Moment) �
 unfolding record_of situation_at
 sound_record p named limit m past =
     at_most_three (pending_at p m.retired m.done) (record_at p named limit m) (few_pending p limit m past)
-    (All-drop IsTold m.done (transactions p m.retired) (transactions_told p m.retired))
+    (All-drop IsCalled m.done (transactions p m.retired) (transactions_told p m.retired))
     (fits_status (state p m.retired).carry (state p m.retired).mxm) refl refl
 
 -- its lines, and those of the words, are accepted
@@ -148,7 +148,7 @@ abbrev case_of_fault : List (ℕ × ℕ) → Record → Result Case ℕ
 case_of_fault words fault = Ok (record { fault = fault; words = words })
 
 served : (r : Record) (t0 t1 t2 : Triple) (bus : ℕ → ℕ) (words : List (ℕ × ℕ)) → r.triples ≡ t0 ∷ t1 ∷ t2 ∷ [] → record_fault r ≡ None
-    → HasWords r → AreWordsOf bus words → IsServed (shown_fault r words) (served_text (serving_with r bus))
+    → IsRecordOfWords r → AreWordsOf bus words → IsServed (shown_fault r words) (served_text (serving_with r bus))
 served r t0 t1 t2 bus words are none small shown =
     let triples : All IsTripleOfWords (t0 ∷ t1 ∷ t2 ∷ []) = subst (All IsTripleOfWords) are small.triples in
     let rest : All IsTripleOfWords (t1 ∷ t2 ∷ []) = All-tail IsTripleOfWords t0 (t1 ∷ t2 ∷ []) triples in

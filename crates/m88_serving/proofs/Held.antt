@@ -15,16 +15,16 @@ use Rattle.m88_monitor.proofs.Steps.{second_kept, third_kept, third_kept_again}
 use Rattle.m88_monitor.specs.Serving.{Serving, after_access_at, after_service, after_triple, triple_at, with_finished, with_loaded, without_bit}
 use Rattle.m88_report.specs.Report.{word_line}
 use Rattle.m88_serving.proofs.Marked.{else_is, then_is}
-use Rattle.m88_serving.specs.Served.{access_line, accesses_text, register_text, registers_below, served_text, slots_text, triple_line}
+use Rattle.m88_serving.specs.Served.{access_line, transactions_text, awaited_text, registers_below, served_text, slots_text, transaction_line}
 use Rattle.m88_serving.specs.Serving.{serving_with}
-use Rattle.m88_serving.specs.Inside.Steps.{Held, held_after, held_behind, held_behind_all, held_in, lines_of_triples}
+use Rattle.m88_serving.specs.Inside.Steps.{Held, held_after, held_behind, held_behind_all, handled, lines_of_triples}
 
 -- what isn't valid changes nothing, and has no line
 pub unserved : (t : Triple) (h : Held) → is_valid_triple t ≡ false → h ≡ held_behind t h
 unfolding held_behind
 unserved t h none = rw none refl
 
-pub no_line : (index : ℕ) (t : Triple) (bus : ℕ → ℕ) (text : List ℕ) → is_valid_triple t ≡ false → text ≡ text ++ triple_line index t bus
+pub no_line : (index : ℕ) (t : Triple) (bus : ℕ → ℕ) (text : List ℕ) → is_valid_triple t ≡ false → text ≡ text ++ transaction_line index t bus
 no_line index t bus text none = rw none (sym (append-nil text))
 
 -- what is valid is made
@@ -33,7 +33,7 @@ unfolding held_behind
 served t a h valid told = rw valid (ap (λ x. held_after x h) told)
 
 pub its_line : (index : ℕ) (t : Triple) (a : Access) (bus : ℕ → ℕ) → is_valid_triple t ≡ true → a ≡ access_in t
-    → access_line index a (loaded a bus) ≡ triple_line index t bus
+    → access_line index a (loaded a bus) ≡ transaction_line index t bus
 its_line index t a bus valid told = rw valid (ap (λ x. access_line index x (loaded x bus)) told)
 
 -- a store and a load
@@ -73,14 +73,14 @@ made_ssbr : (index : ℕ) (a : Access) (c : ControlRegisters)
     → (with_finished index (with_loaded a c)).ssbr ≡ (if a.write then c.ssbr else without_bit (number_of a.reg) c.ssbr)
 made_ssbr index a c = finished_ssbr index (with_loaded a c) ∙ by_test a.write (λ w. rw w refl) (λ r. rw r refl)
 
-held_made : (index : ℕ) (a : Access) (s : Serving) → held_in (after_access_at index a s) ≡ held_after a (held_in s)
+held_made : (index : ℕ) (a : Access) (s : Serving) → handled (after_access_at index a s) ≡ held_after a (handled s)
 held_made index a s = λ i. record {
   numbers = if a.write then s.numbers else with_register a.reg (loaded a s.bus) s.numbers;
   bus = if a.write then stored a s.bus else s.bus;
   ssbr = made_ssbr index a s.control i;
 }
 
-held_step : (index : ℕ) (s : Serving) → held_in (after_triple index s) ≡ held_behind (triple_at index s.control) (held_in s)
+held_step : (index : ℕ) (s : Serving) → handled (after_triple index s) ≡ held_behind (triple_at index s.control) (handled s)
 unfolding held_behind
 held_step index s = by_test (is_valid_triple (triple_at index s.control))
     (λ valid. rw valid (held_made index (access_in (triple_at index s.control)) s))
@@ -104,27 +104,27 @@ sfip_kept index s = by_test (is_valid_triple (triple_at index s.control))
     (λ none. rw none refl)
 
 -- the first two services, with the transactions that are behind them
-twice_held : (s : Serving) → held_in (after_triple 1 (after_triple 0 s)) ≡ held_behind s.control.t1 (held_behind s.control.t0 (held_in s))
+twice_held : (s : Serving) → handled (after_triple 1 (after_triple 0 s)) ≡ held_behind s.control.t1 (held_behind s.control.t0 (handled s))
 twice_held s =
     held_step 1 (after_triple 0 s)
-    ∙ ap (λ t. held_behind t (held_in (after_triple 0 s))) (second_kept s)
+    ∙ ap (λ t. held_behind t (handled (after_triple 0 s))) (second_kept s)
     ∙ ap (held_behind s.control.t1) (held_step 0 s)
 
 last_kept : (s : Serving) → (after_triple 1 (after_triple 0 s)).control.t2 ≡ s.control.t2
 last_kept s = third_kept_again (after_triple 0 s) ∙ third_kept s
 
 -- all three
-pub all_held : (s : Serving) → held_in (after_service s) ≡ held_behind_all (triples_by_age s.control) (held_in s)
+pub all_held : (s : Serving) → handled (after_service s) ≡ held_behind_all (triples_by_age s.control) (handled s)
 all_held s =
     held_step 2 (after_triple 1 (after_triple 0 s))
-    ∙ ap (λ t. held_behind t (held_in (after_triple 1 (after_triple 0 s)))) (last_kept s)
+    ∙ ap (λ t. held_behind t (handled (after_triple 1 (after_triple 0 s)))) (last_kept s)
     ∙ ap (held_behind s.control.t2) (twice_held s)
 
-pub all_lines : (s : Serving) → accesses_text s ≡ lines_of_triples (triples_by_age s.control) (held_in s)
+pub all_lines : (s : Serving) → transactions_text s ≡ lines_of_triples (triples_by_age s.control) (handled s)
 all_lines s = λ i.
-    triple_line 0 s.control.t0 s.bus
-    ++ triple_line 1 (second_kept s i) (held_step 0 s i).bus
-    ++ triple_line 2 (last_kept s i) (twice_held s i).bus
+    transaction_line 0 s.control.t0 s.bus
+    ++ transaction_line 1 (second_kept s i) (held_step 0 s i).bus
+    ++ transaction_line 2 (last_kept s i) (twice_held s i).bus
 
 slots_kept : (s : Serving) → slots_text (after_service s).control.ssbr (after_service s).control.snip (after_service s).control.sfip
     ≡ slots_text (after_service s).control.ssbr s.control.snip s.control.sfip
@@ -135,15 +135,15 @@ slots_kept s = λ i.
 
 -- the text of what was made
 pub text_made : (r : Record) (bus : ℕ → ℕ) (new : Held) (values : List ℕ) (words : List (ℕ × ℕ)) (text : List ℕ)
-    → new ≡ held_behind_all r.triples (held_in (serving_with r bus)) → values ≡ new.numbers → words ≡ changed_words bus new.bus
-    → text ≡ ((lines_of_triples r.triples (held_in (serving_with r bus)) ++ registers_below (registers_in r.ssbr) values 32)
+    → new ≡ held_behind_all r.triples (handled (serving_with r bus)) → values ≡ new.numbers → words ≡ changed_words bus new.bus
+    → text ≡ ((lines_of_triples r.triples (handled (serving_with r bus)) ++ registers_below (registers_in r.ssbr) values 32)
     ++ flat_map word_line words) ++ slots_text new.ssbr r.snip r.sfip
     → text ≡ served_text (serving_with r bus)
 unfolding served_text
 text_made r bus new values words text made shown changed is =
     let s : Serving = serving_with r bus in
-    let same : new ≡ held_in (after_service s) = made ∙ sym (all_held s) in
-    let lines : List ℕ = lines_of_triples r.triples (held_in s) in
+    let same : new ≡ handled (after_service s) = made ∙ sym (all_held s) in
+    let lines : List ℕ = lines_of_triples r.triples (handled s) in
     is
     ∙ three_lines lines (registers_below (registers_in r.ssbr) values 32) (flat_map word_line words) (slots_text new.ssbr r.snip r.sfip)
     ∙ (λ i. lines ++ (registers_below (registers_in r.ssbr) (shown i) 32 ++ flat_map word_line (changed i) ++ slots_text new.ssbr r.snip r.sfip))
@@ -154,7 +154,7 @@ text_made r bus new values words text made shown changed is =
 
 -- the same by the steps of the text
 pub text_by_steps : (r : Record) (bus : ℕ → ℕ) (old new : Held) (values : List ℕ) (words : List (ℕ × ℕ)) (text0 text1 text2 text3 text : List ℕ)
-    → old ≡ held_in (serving_with r bus) → new ≡ held_behind_all r.triples old → values ≡ new.numbers → words ≡ changed_words bus new.bus
+    → old ≡ handled (serving_with r bus) → new ≡ held_behind_all r.triples old → values ≡ new.numbers → words ≡ changed_words bus new.bus
     → text0 ≡ [] → text1 ≡ text0 ++ lines_of_triples r.triples old → text2 ≡ text1 ++ registers_below (registers_in r.ssbr) values 32
     → text3 ≡ text2 ++ flat_map word_line words → text ≡ text3 ++ slots_text new.ssbr r.snip r.sfip
     → text ≡ served_text (serving_with r bus)
@@ -166,6 +166,6 @@ text_by_steps r bus old new values words text0 text1 text2 text3 text found made
 
 -- the registers below one number more
 pub registers_next : (set : ℕ → Bool) (numbers : List ℕ) (r : ℕ)
-    → registers_below set numbers (r + 1) ≡ registers_below set numbers r ++ register_text set numbers r
+    → registers_below set numbers (r + 1) ≡ registers_below set numbers r ++ awaited_text set numbers r
 unfolding registers_below
 registers_next set numbers r = rw (add-one r) refl

@@ -9,8 +9,8 @@ use Rattle.m88_isa.proofs.Laws.{by_test}
 use Rattle.m88_isa.specs.Lanes.{IsEnable}
 use Rattle.m88_isa.specs.Triples.{dmt_of, is_valid_triple}
 use Rattle.m88_isa.specs.declared.planned.Access.{Access}
-use Rattle.m88_serving.specs.Faults.{access_of_dmt, at_first, fault_at, first_behind, first_line, first_of, has_datum, has_odd_access, has_odd_address, is_dmt, is_fit, is_fit_byte, is_fit_half, is_fit_size, is_fit_store, is_fit_word, is_status, is_unempty, loaded_set, record_fault, triple_of_record}
-use Rattle.m88_serving.specs.Inside.Steps.{CanMake, CanMakeAll}
+use Rattle.m88_serving.specs.Faults.{access_of_dmt, at_first, fault_of_kind, first_behind, first_line, first_transaction, has_datum, has_odd_access, has_odd_address, is_dmt, is_fit, is_fit_byte, is_fit_half, is_fit_size, is_fit_store, is_fit_word, is_status, is_unempty, awaited_set, record_fault, triple_of_record}
+use Rattle.m88_serving.specs.Inside.Steps.{IsServable, AreServable}
 use Rattle.m88_serving.specs.declared.fault.ServeFault.{ServeFault}
 use Rattle.m88_serving.specs.declared.fault.ServeKind.{ServeKind}
 use Rattle.m88_serving.specs.declared.fault.ServeKind.TheVariants as kind
@@ -20,7 +20,7 @@ pub none_of_two : (a b : Option ServeFault) → option_or a b ≡ None → (a �
 none_of_two None b e = (refl, e)
 none_of_two (Some fault) b e = absurd cc
 
-pub no_line : (k : ServeKind) (line : Option ℕ) → fault_at k line ≡ None → line ≡ None
+pub no_line : (k : ServeKind) (line : Option ℕ) → fault_of_kind k line ≡ None → line ≡ None
 no_line k None e = refl
 no_line k (Some number) e = absurd cc
 
@@ -45,43 +45,43 @@ pub record IsFaultless (r : Record) : Type 0 where
   pub status : is_status r.epsr ≡ true
   pub access : NoneOf (has_odd_access (triple_of_record 0 r)) (has_odd_access (triple_of_record 1 r)) (has_odd_access (triple_of_record 2 r))
   pub address : NoneOf (has_odd_address (triple_of_record 0 r)) (has_odd_address (triple_of_record 1 r)) (has_odd_address (triple_of_record 2 r))
-  pub loaded : (r.ssbr == loaded_set r) ≡ true
+  pub loaded : (r.ssbr == awaited_set r) ≡ true
 
 -- its reasons from each on
 abbrev from_ssbr : Record → Option ServeFault
-from_ssbr r = fault_at kind.Ssbr (at_first (r.ssbr == loaded_set r))
+from_ssbr r = fault_of_kind kind.Ssbr (at_first (r.ssbr == awaited_set r))
 
 abbrev from_order : Record → Option ServeFault
-from_order r = option_or (fault_at kind.Order (first_behind r)) (from_ssbr r)
+from_order r = option_or (fault_of_kind kind.Order (first_behind r)) (from_ssbr r)
 
 abbrev from_empty : Record → Option ServeFault
-from_empty r = option_or (fault_at kind.Empty (first_of is_unempty r)) (from_order r)
+from_empty r = option_or (fault_of_kind kind.Empty (first_transaction is_unempty r)) (from_order r)
 
 abbrev from_datum : Record → Option ServeFault
-from_datum r = option_or (fault_at kind.Datum (first_of has_datum r)) (from_empty r)
+from_datum r = option_or (fault_of_kind kind.Datum (first_transaction has_datum r)) (from_empty r)
 
 abbrev from_address : Record → Option ServeFault
-from_address r = option_or (fault_at kind.Address (first_of has_odd_address r)) (from_datum r)
+from_address r = option_or (fault_of_kind kind.Address (first_transaction has_odd_address r)) (from_datum r)
 
 abbrev from_access : Record → Option ServeFault
-from_access r = option_or (fault_at kind.Access (first_of has_odd_access r)) (from_address r)
+from_access r = option_or (fault_of_kind kind.Access (first_transaction has_odd_access r)) (from_address r)
 
 pub faultless_record : (r : Record) → record_fault r ≡ None → IsFaultless r
 unfolding record_fault
 faultless_record r none =
-    let epsr = none_of_two (fault_at kind.Epsr (at_first (is_status r.epsr))) (from_access r) none in
-    let access = none_of_two (fault_at kind.Access (first_of has_odd_access r)) (from_address r) epsr.1 in
-    let address = none_of_two (fault_at kind.Address (first_of has_odd_address r)) (from_datum r) access.1 in
-    let datum = none_of_two (fault_at kind.Datum (first_of has_datum r)) (from_empty r) address.1 in
-    let empty = none_of_two (fault_at kind.Empty (first_of is_unempty r)) (from_order r) datum.1 in
-    let order = none_of_two (fault_at kind.Order (first_behind r)) (from_ssbr r) empty.1 in
+    let epsr = none_of_two (fault_of_kind kind.Epsr (at_first (is_status r.epsr))) (from_access r) none in
+    let access = none_of_two (fault_of_kind kind.Access (first_transaction has_odd_access r)) (from_address r) epsr.1 in
+    let address = none_of_two (fault_of_kind kind.Address (first_transaction has_odd_address r)) (from_datum r) access.1 in
+    let datum = none_of_two (fault_of_kind kind.Datum (first_transaction has_datum r)) (from_empty r) address.1 in
+    let empty = none_of_two (fault_of_kind kind.Empty (first_transaction is_unempty r)) (from_order r) datum.1 in
+    let order = none_of_two (fault_of_kind kind.Order (first_behind r)) (from_ssbr r) empty.1 in
     record {
       status = holds_at_first (is_status r.epsr) (no_line kind.Epsr (at_first (is_status r.epsr)) epsr.0);
       access = none_of_three (has_odd_access (triple_of_record 0 r)) (has_odd_access (triple_of_record 1 r)) (has_odd_access (triple_of_record 2 r))
-          (no_line kind.Access (first_of has_odd_access r) access.0);
+          (no_line kind.Access (first_transaction has_odd_access r) access.0);
       address = none_of_three (has_odd_address (triple_of_record 0 r)) (has_odd_address (triple_of_record 1 r)) (has_odd_address (triple_of_record 2 r))
-          (no_line kind.Address (first_of has_odd_address r) address.0);
-      loaded = holds_at_first (r.ssbr == loaded_set r) (no_line kind.Ssbr (at_first (r.ssbr == loaded_set r)) order.1);
+          (no_line kind.Address (first_transaction has_odd_address r) address.0);
+      loaded = holds_at_first (r.ssbr == awaited_set r) (no_line kind.Ssbr (at_first (r.ssbr == awaited_set r)) order.1);
     }
 
 -- the two parts of a test, and the rest of one
@@ -121,14 +121,14 @@ pub size_of_fit : (a : Access) → is_fit a ≡ true → is_fit_size a ≡ true
 unfolding is_fit
 size_of_fit a e = (both (is_fit_store a) (is_fit_size a) e).1
 
-can_make : (t : Triple) → has_odd_access t ≡ false → has_odd_address t ≡ false → CanMake t
+can_make : (t : Triple) → has_odd_access t ≡ false → has_odd_address t ≡ false → IsServable t
 unfolding has_odd_access has_odd_address
 can_make t access address = record {
   word = λ valid. eqb-true (t.dma % 4) 0 (not_odd (is_valid_triple t) (t.dma % 4 == 0) address valid);
   enable = λ valid. enable_of_size (access_of_dmt t.dmt) (size_of_fit (access_of_dmt t.dmt) (fit_of_dmt t.dmt (not_odd (is_valid_triple t) (is_dmt t.dmt) access valid)));
 }
 
-pub can_make_all : (r : Record) → record_fault r ≡ None → CanMakeAll r.triples
+pub can_make_all : (r : Record) → record_fault r ≡ None → AreServable r.triples
 can_make_all r none =
     let fits = faultless_record r none in
     record {

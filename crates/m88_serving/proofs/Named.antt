@@ -14,7 +14,7 @@ use Rattle.m88_mem.specs.DataBus.{image_bus, image_bytes}
 use Rattle.m88_serving.proofs.Puts.{same_number}
 use Rattle.m88_serving.specs.Faults.{is_named, repeated_from}
 use Rattle.m88_serving.specs.Serving.{named_bus, with_words}
-use Rattle.m88_serving.specs.Inside.Naming.{HasNamed, HasWord, PutsWord}
+use Rattle.m88_serving.specs.Inside.Naming.{HasNamed, StoodBefore, NamesOneMore}
 
 -- before the first
 pub named_none : (words : List (ℕ × ℕ)) (image : ProgramImage) → ((a : ℕ) → byte_at image a ≡ None) → HasNamed words 0 image
@@ -57,7 +57,7 @@ repeated_here number before word words there = rw there refl
 -- one word more
 pub named_one : (words : List (ℕ × ℕ)) (n : ℕ) (word : ℕ × ℕ) (old new : ProgramImage) → word.0 % 4 ≡ 0
     → drop n words ≡ word ∷ drop (n + 1) words → take (n + 1) words ≡ take n words ++ word ∷ []
-    → HasNamed words n old → PutsWord old new word.0 word.1 → HasNamed words (n + 1) new
+    → HasNamed words n old → NamesOneMore old new word.0 word.1 → HasNamed words (n + 1) new
 unfolding with_words
 named_one words n word old new aligned next front named puts =
     let unnamed : is_named (take n words) word.0 ≡ false =
@@ -77,7 +77,7 @@ named_one words n word old new aligned next front named puts =
 
 -- a word that is there already
 pub named_twice : (words : List (ℕ × ℕ)) (n : ℕ) (word : ℕ × ℕ) (image : ProgramImage)
-    → drop n words ≡ word ∷ drop (n + 1) words → HasNamed words n image → HasWord image word.0 → repeated_from 5 [] words ≡ Some (5 + n)
+    → drop n words ≡ word ∷ drop (n + 1) words → HasNamed words n image → StoodBefore image word.0 → repeated_from 5 [] words ≡ Some (5 + n)
 named_twice words n word image next named there =
     sym named.same ∙ ap (repeated_from (5 + n) (take n words)) next
     ∙ repeated_here (5 + n) (take n words) word (drop (n + 1) words)

@@ -12,7 +12,7 @@ use Rattle.m88_isa.specs.Address.{word_address}
 use Rattle.m88_isa.specs.Bus.{in_words, with_word}
 use Rattle.m88_isa.specs.Lanes.{number_at}
 use Rattle.m88_mem.specs.DataBus.{image_bytes}
-use Rattle.m88_serving.specs.Inside.Naming.{HasWord, PutsWord}
+use Rattle.m88_serving.specs.Inside.Naming.{StoodBefore, NamesOneMore}
 
 -- four bytes that stand in a row, as a number
 four_at : (memory : ℕ → ℕ) (at b0 b1 b2 b3 : ℕ) → memory (at + 0) ≡ b0 → memory (at + 1) ≡ b1 → memory (at + 2) ≡ b2 → memory (at + 3) ≡ b3
@@ -97,7 +97,7 @@ its_word a = omega arith
 
 -- a word's bytes put into an image put the word there
 pub word_put : (old new : ProgramImage) (at value : ℕ) (bytes : List ℕ) → at % 4 ≡ 0 → value < 2 ^ 32 → bytes ≡ to_be_bytes w32 value
-    → length bytes ≡ 4 → PutsBytes (byte_at old) (byte_at new) at bytes → IsFree (byte_at old) at (length bytes) → PutsWord old new at value
+    → length bytes ≡ 4 → PutsBytes (byte_at old) (byte_at new) at bytes → IsFree (byte_at old) at (length bytes) → NamesOneMore old new at value
 unfolding with_word in_words image_bytes
 word_put old new at value bytes aligned small is four puts free = record {
   free = free at (omega arith, omega (arith, four));
@@ -133,7 +133,7 @@ word_put old new at value bytes aligned small is four puts free = record {
         ap is_some same ∙ sym (or_false (is_some (byte_at old a))) ∙ ap (λ t. is_some (byte_at old a) || t) (sym other)
 
 -- the least byte that stands where those of a word are to be put is one of the word's
-pub word_there_before : (old : ProgramImage) (at a : ℕ) → at % 4 ≡ 0 → IsLeastTaken (byte_at old) at 4 a → HasWord old at
+pub word_there_before : (old : ProgramImage) (at a : ℕ) → at % 4 ≡ 0 → IsLeastTaken (byte_at old) at 4 a → StoodBefore old at
 word_there_before old at a aligned taken = record {
   a = a;
   inside = let below = taken.0.0 in let above = taken.0.1 in omega (arith, aligned, below, above);

@@ -12,9 +12,9 @@ use Rattle.m88_base.specs.Lines.{lines_of, on_first_line}
 use Rattle.m88_base.specs.declared.triple.Triple.{Triple}
 use Rattle.m88_event.specs.declared.record.Record.{Record}
 use Rattle.m88_report.specs.Report.{status_line, triple_line, word_line}
-use Rattle.m88_serving.specs.Cases.{case_in, first_told, record_with, words_from}
-use Rattle.m88_serving.specs.Lines.{alone, behind_front, last_word, status_in, triple_in, word_behind, word_first, word_in}
-use Rattle.m88_serving.specs.Laws.{HasWords, IsShownWord, IsTripleOfWords}
+use Rattle.m88_serving.specs.Cases.{case_in, first_told, record_with, words_told}
+use Rattle.m88_serving.specs.Lines.{alone, behind_front, last_word, status_in, triple_in, word_after, word_first, named_word_in}
+use Rattle.m88_serving.specs.Laws.{IsRecordOfWords, IsShownWord, IsTripleOfWords}
 use Rattle.m88_serving.specs.declared.lines.StatusLine.{StatusLine}
 
 -- what stands behind a front
@@ -37,8 +37,8 @@ front_read front rest =
     ∙ ap (λ same. if same then Some rest else None) (front_same front)
 
 -- a word behind a front
-word_read : (front rest : List ℕ) (n : ℕ) → n < 2 ^ 32 → word_behind front (front ++ (hex8 n ++ rest)) ≡ Some (n, rest)
-unfolding word_behind
+word_read : (front rest : List ℕ) (n : ℕ) → n < 2 ^ 32 → word_after front (front ++ (hex8 n ++ rest)) ≡ Some (n, rest)
+unfolding word_after
 word_read front rest n small =
     ap (option_and_then word_first) (front_read front (hex8 n ++ rest)) ∙ ap (option_map (λ (m : ℕ). (m, rest))) (hex8_of-hex8 n small)
 
@@ -65,7 +65,7 @@ word_text word = codes "mem " ++ (hex8 word.0 ++ (codes " " ++ hex8 word.1))
 abbrev pub status_of_record : Record → StatusLine
 status_of_record r = record { epsr = r.epsr; sxip = r.sxip; snip = r.snip; sfip = r.sfip; ssbr = r.ssbr }
 
-pub status_read : (r : Record) → HasWords r → status_in (status_text r) ≡ Some (status_of_record r)
+pub status_read : (r : Record) → IsRecordOfWords r → status_in (status_text r) ≡ Some (status_of_record r)
 unfolding status_in
 status_read r small =
     let ssbr : List ℕ = codes " ssbr " ++ hex8 r.ssbr in
@@ -88,16 +88,16 @@ triple_read name t small =
     (and_then _ _ (t.dmd, dma) _ (word_read (codes " ") dma t.dmd small.dmd)
     (ap (option_map (λ (w : ℕ). record { dmt = t.dmt; dmd = t.dmd; dma = w })) (last_read (codes " ") t.dma small.dma)))
 
-word_line_read : (word : ℕ × ℕ) → IsShownWord word → word_in (word_text word) ≡ Some word
-unfolding word_in
+word_line_read : (word : ℕ × ℕ) → IsShownWord word → named_word_in (word_text word) ≡ Some word
+unfolding named_word_in
 word_line_read word shown =
     let value : List ℕ = codes " " ++ hex8 word.1 in
     let aligned : (word.0 % 4 == 0) ≡ true = ap (λ n. n == 0) shown.aligned in
     and_then _ _ (word.0, value) _ (word_read (codes "mem ") value word.0 shown.address)
     (and_then _ _ word.1 _ (last_read (codes " ") word.1 shown.value) (rw aligned refl))
 
-pub words_read : (number : ℕ) (words : List (ℕ × ℕ)) → All IsShownWord words → words_from number (map word_text words) ≡ Ok words
-unfolding words_from
+pub words_read : (number : ℕ) (words : List (ℕ × ℕ)) → All IsShownWord words → words_told number (map word_text words) ≡ Ok words
+unfolding words_told
 words_read number [] shown = refl
 words_read number (word ∷ words) shown =
     rw (word_line_read word (All-head IsShownWord word words shown), words_read (number + 1) words (All-tail IsShownWord word words shown)) refl
@@ -196,7 +196,7 @@ fault_lines r t0 t1 t2 words are =
 -- what such lines tell
 pub case_read : (l0 l1 l2 l3 : List ℕ) (ls : List (List ℕ)) (status : StatusLine) (t0 t1 t2 : Triple) (words : List (ℕ × ℕ))
     → status_in l0 ≡ Some status → triple_in (codes "t0 ") l1 ≡ Some t0 → triple_in (codes "t1 ") l2 ≡ Some t1 → triple_in (codes "t2 ") l3 ≡ Some t2
-    → words_from 5 ls ≡ Ok words
+    → words_told 5 ls ≡ Ok words
     → case_in (l0 ∷ l1 ∷ l2 ∷ l3 ∷ ls) ≡ Ok (record { fault = record_with status t0 t1 t2; words = words })
 unfolding case_in first_told
 case_read l0 l1 l2 l3 ls status t0 t1 t2 words e0 e1 e2 e3 e4 = rw (e0, e1, e2, e3, e4) refl

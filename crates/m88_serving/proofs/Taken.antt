@@ -6,42 +6,42 @@ use Rattle.std.proofs.lemmas.Bool.Decides.{nat_tests}
 use Rattle.std.proofs.lemmas.List.{append-nil, length-take}
 use Rattle.m88_base.specs.Lines.{lines_of}
 use Rattle.m88_isa.proofs.Laws.{by_test}
-use Rattle.m88_serving.specs.Cases.{first_told, with_first, word_at, words_from}
-use Rattle.m88_serving.specs.Lines.{at_word, last_word, word_behind, word_first, word_in}
-use Rattle.m88_serving.specs.Inside.Replies.{joined}
+use Rattle.m88_serving.specs.Cases.{first_told, word_before, word_told, words_told}
+use Rattle.m88_serving.specs.Lines.{at_word, last_word, word_after, word_first, named_word_in}
+use Rattle.m88_serving.specs.Inside.Replies.{words_behind}
 
 -- before the first
-pub joined_first : (rest : Result (List (ℕ × ℕ)) ℕ) → joined [] rest ≡ rest
+pub joined_first : (rest : Result (List (ℕ × ℕ)) ℕ) → words_behind [] rest ≡ rest
 joined_first (Ok more) = refl
 joined_first (Err number) = refl
 
 -- a word that was read goes behind those before it
 joined_more : (words : List (ℕ × ℕ)) (word : ℕ × ℕ) (rest : Result (List (ℕ × ℕ)) ℕ)
-    → joined (words ++ word ∷ []) rest ≡ joined words (with_first word rest)
+    → words_behind (words ++ word ∷ []) rest ≡ words_behind words (word_before word rest)
 joined_more words word (Ok more) = ap Ok (append_assoc words (word ∷ []) more)
 joined_more words word (Err number) = refl
 
 -- one line more that tells a word
 pub words_more : (words : List (ℕ × ℕ)) (number : ℕ) (line rest behind : List ℕ) (word : ℕ × ℕ)
-    → lines_of rest ≡ line ∷ lines_of behind → word_in line ≡ Some word
-    → joined (words ++ word ∷ []) (words_from (number + 1) (lines_of behind)) ≡ joined words (words_from number (lines_of rest))
-unfolding words_from
+    → lines_of rest ≡ line ∷ lines_of behind → named_word_in line ≡ Some word
+    → words_behind (words ++ word ∷ []) (words_told (number + 1) (lines_of behind)) ≡ words_behind words (words_told number (lines_of rest))
+unfolding words_told
 words_more words number line rest behind word lines told =
-    joined_more words word (words_from (number + 1) (lines_of behind))
-    ∙ sym (ap (λ ls. joined words (words_from number ls)) lines
-    ∙ ap (λ w. joined words (word_at number w (words_from (number + 1) (lines_of behind)))) told)
+    joined_more words word (words_told (number + 1) (lines_of behind))
+    ∙ sym (ap (λ ls. words_behind words (words_told number ls)) lines
+    ∙ ap (λ w. words_behind words (word_told number w (words_told (number + 1) (lines_of behind)))) told)
 
 -- a line that tells none
 pub words_wrong : (words : List (ℕ × ℕ)) (number : ℕ) (line rest behind : List ℕ)
-    → lines_of rest ≡ line ∷ lines_of behind → word_in line ≡ None → joined words (words_from number (lines_of rest)) ≡ Err number
-unfolding words_from
+    → lines_of rest ≡ line ∷ lines_of behind → named_word_in line ≡ None → words_behind words (words_told number (lines_of rest)) ≡ Err number
+unfolding words_told
 words_wrong words number line rest behind lines told =
-    ap (λ ls. joined words (words_from number ls)) lines
-    ∙ ap (λ w. joined words (word_at number w (words_from (number + 1) (lines_of behind)))) told
+    ap (λ ls. words_behind words (words_told number ls)) lines
+    ∙ ap (λ w. words_behind words (word_told number w (words_told (number + 1) (lines_of behind)))) told
 
 -- where no line is left, the words are those that were read
-pub words_last : (words : List (ℕ × ℕ)) (number : ℕ) (rest : List ℕ) → length rest < 1 → joined words (words_from number (lines_of rest)) ≡ Ok words
-unfolding words_from lines_of
+pub words_last : (words : List (ℕ × ℕ)) (number : ℕ) (rest : List ℕ) → length rest < 1 → words_behind words (words_told number (lines_of rest)) ≡ Ok words
+unfolding words_told lines_of
 words_last words number [] none = ap Ok (append-nil words)
 words_last words number (b ∷ rest) none = absurd (omega (arith, none))
 
@@ -64,9 +64,9 @@ aligned_behind : (first : Option (ℕ × List ℕ)) (word : ℕ × ℕ)
 aligned_behind None word e = absurd cc
 aligned_behind (Some first) word e = aligned_word first.0 (last_word (codes " ") first.1) word e
 
-pub word_aligned : (line : List ℕ) (word : ℕ × ℕ) → word_in line ≡ Some word → word.0 % 4 ≡ 0
-unfolding word_in
-word_aligned line word e = aligned_behind (word_behind (codes "mem ") line) word e
+pub word_aligned : (line : List ℕ) (word : ℕ × ℕ) → named_word_in line ≡ Some word → word.0 % 4 ≡ 0
+unfolding named_word_in
+word_aligned line word e = aligned_behind (word_after (codes "mem ") line) word e
 
 -- a text of fewer than eight bytes begins with no word
 pub short_word : (text : List ℕ) → length text < 8 → word_first text ≡ None

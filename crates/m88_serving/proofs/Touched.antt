@@ -30,12 +30,12 @@ use Rattle.m88_serving.proofs.Dmts.{byte_enable, half_enable, load_byte, load_ha
 use Rattle.m88_serving.specs.Faults.{is_dmt}
 
 -- an access of a history
-pub record IsTold (a : Access) : Type 0 where
+pub record IsCalled (a : Access) : Type 0 where
   pub made : IsWordAccess a
   pub taken : is_dmt (dmt_of a) ≡ true
 
 abbrev Told : Touch → Type 0
-Told t = IsTold (access_of t)
+Told t = IsCalled (access_of t)
 
 enabled_half : (place : ℕ) → IsEnable (enable_of place 2)
 enabled_half place = elim (half_enable place) [
@@ -187,10 +187,10 @@ meaning_told i regs carry mxm pc next = by_test (is_flow i && not (next == after
 
 -- those of a turn, and of a history
 abbrev TurnTold : Turn → Type 0
-TurnTold turn = All IsTold (turn_accesses turn)
+TurnTold turn = All IsCalled (turn_accesses turn)
 
-idle : All IsTold []
-idle = All-nil IsTold
+idle : All IsCalled []
+idle = All-nil IsCalled
 
 service_told : (service : Service) (vector pc : ℕ) → TurnTold (turn_of_service service vector pc)
 service_told (Out byte) vector pc = idle
@@ -200,7 +200,7 @@ service_told Unserved vector pc = idle
 carried_told : (m : Meaning) (regs : List ℕ) (pc : ℕ) → MeansTold m → TurnTold (carried_out m regs pc)
 carried_told (raises vector) regs pc told = idle
 carried_told (traps vector) regs pc told = service_told (service_of vector regs) vector pc
-carried_told (goes change) regs pc told = All-map IsTold access_of change.touches told
+carried_told (goes change) regs pc told = All-map IsCalled access_of change.touches told
 
 fetched_told : (word : Option (List ℕ)) (i : Option Instr) (regs : List ℕ) (carry mxm : Bool) (pc next : ℕ)
     → TurnTold (fetched word i regs carry mxm pc next)
@@ -209,9 +209,9 @@ fetched_told (Some word) None regs carry mxm pc next = idle
 fetched_told (Some word) (Some i) regs carry mxm pc next =
     carried_told (meaning_of i regs carry mxm pc next) regs pc (meaning_told i regs carry mxm pc next)
 
-pub transactions_told : (p : Program) (n : ℕ) → All IsTold (transactions p n)
+pub transactions_told : (p : Program) (n : ℕ) → All IsCalled (transactions p n)
 unfolding transactions
 transactions_told p zero = idle
 transactions_told p (suc n) =
-    All-append IsTold (transactions p n) (turn_accesses (turn_at p (state p n))) (transactions_told p n)
+    All-append IsCalled (transactions p n) (turn_accesses (turn_at p (state p n))) (transactions_told p n)
     (fetched_told (four_bytes p.byte (state p n).pc) (p.instruction (state p n).pc) (state p n).regs (state p n).carry (state p n).mxm (state p n).pc (state p n).next)

@@ -6,7 +6,7 @@ use Rattle.m88_base.specs.Reading.{most_input}
 
 -- a call answered an input: the source was read to its end, the text is as told for it, and the sink was given the text
 -- as told
-pub record IsTold (before after : Option (List ℕ)) (IsText : List ℕ → List ℕ → Type 0)
+pub record IsCalled (before after : Option (List ℕ)) (IsText : List ℕ → List ℕ → Type 0)
     (SinkIsGiven : List ℕ → Type 0) : Type 0 where
   pub source : List ℕ
   pub given : GivesAll before after source
@@ -15,5 +15,5 @@ pub record IsTold (before after : Option (List ℕ)) (IsText : List ℕ → List
   pub written : SinkIsGiven text
 
 -- what is left to read is the source, and not too long
-abbrev pub HasInput : Option (List ℕ) → List ℕ → Type 0
-HasInput left source = (left ≡ Some source) × (length source ≤ most_input)
+abbrev pub IsLeft : Option (List ℕ) → List ℕ → Type 0
+IsLeft left source = (left ≡ Some source) × (length source ≤ most_input)

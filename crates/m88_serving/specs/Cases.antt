@@ -3,7 +3,7 @@
 use Rattle.std.specs.Prelude.{ℕ, ◌+◌, List, [], ◌∷◌, Option, Some, None, Result, Ok, Err, codes, option_map}
 use Rattle.m88_base.specs.declared.triple.Triple.{Triple}
 use Rattle.m88_event.specs.declared.record.Record.{Record}
-use Rattle.m88_serving.specs.Lines.{status_in, triple_in, word_in}
+use Rattle.m88_serving.specs.Lines.{status_in, triple_in, named_word_in}
 use Rattle.m88_serving.specs.declared.lines.StatusLine.{StatusLine}
 
 -- a data fault: the record that it left, whose event isn't told and counts as 0, and the words before
@@ -35,19 +35,19 @@ told_at number None rest = Err number
 told_at number (Some told) rest = rest told.0 told.1
 
 -- a word in front of others
-abbrev pub with_first : ℕ × ℕ → Result (List (ℕ × ℕ)) ℕ → Result (List (ℕ × ℕ)) ℕ
-with_first word (Ok words) = Ok (word ∷ words)
-with_first word (Err number) = Err number
+abbrev pub word_before : ℕ × ℕ → Result (List (ℕ × ℕ)) ℕ → Result (List (ℕ × ℕ)) ℕ
+word_before word (Ok words) = Ok (word ∷ words)
+word_before word (Err number) = Err number
 
 -- the word of a line of a number in front of those behind it
-abbrev pub word_at : ℕ → Option (ℕ × ℕ) → Result (List (ℕ × ℕ)) ℕ → Result (List (ℕ × ℕ)) ℕ
-word_at number None rest = Err number
-word_at number (Some word) rest = with_first word rest
+abbrev pub word_told : ℕ → Option (ℕ × ℕ) → Result (List (ℕ × ℕ)) ℕ → Result (List (ℕ × ℕ)) ℕ
+word_told number None rest = Err number
+word_told number (Some word) rest = word_before word rest
 
 -- the words that lines tell, the first of them with a number, or the number of the first that tells none
-unfoldable pub words_from : ℕ → List (List ℕ) → Result (List (ℕ × ℕ)) ℕ
-words_from number [] = Ok []
-words_from number (line ∷ lines) = word_at number (word_in line) (words_from (number + 1) lines)
+unfoldable pub words_told : ℕ → List (List ℕ) → Result (List (ℕ × ℕ)) ℕ
+words_told number [] = Ok []
+words_told number (line ∷ lines) = word_told number (named_word_in line) (words_told (number + 1) lines)
 
 -- a record with words
 abbrev pub case_with : Record → Result (List (ℕ × ℕ)) ℕ → Result Case ℕ
@@ -62,4 +62,4 @@ case_in lines =
     told_at 2 (first_told (triple_in (codes "t0 ")) lines) (λ t0 lines.
     told_at 3 (first_told (triple_in (codes "t1 ")) lines) (λ t1 lines.
     told_at 4 (first_told (triple_in (codes "t2 ")) lines) (λ t2 lines.
-    case_with (record_with status t0 t1 t2) (words_from 5 lines)))))
+    case_with (record_with status t0 t1 t2) (words_told 5 lines)))))

@@ -99,8 +99,8 @@ abbrev pub first_line : Bool → Bool → Bool → Option ℕ
 first_line t0 t1 t2 = if t0 then Some 2 else if t1 then Some 3 else if t2 then Some 4 else None
 
 -- the line of the first transaction of which this holds
-abbrev pub first_of : (Triple → Bool) → Record → Option ℕ
-first_of holds r =
+abbrev pub first_transaction : (Triple → Bool) → Record → Option ℕ
+first_transaction holds r =
     first_line (holds (triple_of_record 0 r)) (holds (triple_of_record 1 r)) (holds (triple_of_record 2 r))
 
 -- the line of the first valid transaction behind one that isn't
@@ -114,8 +114,8 @@ abbrev pub at_first : Bool → Option ℕ
 at_first holds = if holds then None else Some 1
 
 -- the set of the registers that the valid transactions load, r0 left out
-abbrev pub loaded_set : Record → ℕ
-loaded_set r =
+abbrev pub awaited_set : Record → ℕ
+awaited_set r =
     register_bits (waits_for (accesses_in (triple_of_record 0 r ∷ triple_of_record 1 r ∷ triple_of_record 2 r ∷ [])))
 
 -- the address is that of a word of the list
@@ -130,20 +130,20 @@ repeated_from number before (word ∷ words) =
     if is_named before word.0 then Some number else repeated_from (number + 1) (before ++ word ∷ []) words
 
 -- a fault of a kind at a line, where there is one
-abbrev pub fault_at : ServeKind → Option ℕ → Option ServeFault
-fault_at kind line = option_map (λ number. record { line = number; kind = kind }) line
+abbrev pub fault_of_kind : ServeKind → Option ℕ → Option ServeFault
+fault_of_kind kind line = option_map (λ number. record { line = number; kind = kind }) line
 
 -- the first fault of a record, by the order of the reasons
 unfoldable pub record_fault : Record → Option ServeFault
 record_fault r =
-    option_or (fault_at kind.Epsr (at_first (is_status r.epsr)))
-    (option_or (fault_at kind.Access (first_of has_odd_access r))
-    (option_or (fault_at kind.Address (first_of has_odd_address r))
-    (option_or (fault_at kind.Datum (first_of has_datum r))
-    (option_or (fault_at kind.Empty (first_of is_unempty r))
-    (option_or (fault_at kind.Order (first_behind r))
-    (fault_at kind.Ssbr (at_first (r.ssbr == loaded_set r))))))))
+    option_or (fault_of_kind kind.Epsr (at_first (is_status r.epsr)))
+    (option_or (fault_of_kind kind.Access (first_transaction has_odd_access r))
+    (option_or (fault_of_kind kind.Address (first_transaction has_odd_address r))
+    (option_or (fault_of_kind kind.Datum (first_transaction has_datum r))
+    (option_or (fault_of_kind kind.Empty (first_transaction is_unempty r))
+    (option_or (fault_of_kind kind.Order (first_behind r))
+    (fault_of_kind kind.Ssbr (at_first (r.ssbr == awaited_set r))))))))
 
 -- the first fault of a case
 unfoldable pub case_fault : Case → Option ServeFault
-case_fault c = option_or (record_fault c.fault) (fault_at kind.Twice (repeated_from 5 [] c.words))
+case_fault c = option_or (record_fault c.fault) (fault_of_kind kind.Twice (repeated_from 5 [] c.words))

@@ -18,14 +18,15 @@ use Rattle.m88_report.specs.Report.{record_lines, word_line}
 use Rattle.m88_serving.specs.Faults.{is_dmt, repeated_from}
 use Rattle.m88_serving.specs.Served.{IsServed, served_text}
 use Rattle.m88_serving.specs.Serving.{named_bus, serving_of_case, serving_with}
-use Rattle.m88_serving.specs.Verdict.{verdict}
+use Rattle.m88_serving.specs.Verdict.{serve_verdict}
 use Rattle.m88_serving.specs.declared.fault.ServeFault.{ServeFault}
 
 -- an input is accepted or has a first fault, never both, and one at most
 abbrev pub EachInputHasOneVerdict : Type 0
 EachInputHasOneVerdict =
     (input : List ℕ)
-    → HasOneVerdict (λ (told : Case). verdict input ≡ Ok told) (λ (fault : ServeFault). verdict input ≡ Err fault)
+    → HasOneVerdict (λ (told : Case). serve_verdict input ≡ Ok told)
+    (λ (fault : ServeFault). serve_verdict input ≡ Err fault)
 
 -- one of some touches has this DMT
 abbrev pub IsDmtAmong : ℕ → List Touch → Type 0
@@ -48,15 +49,17 @@ EachDmtIsOfAnAccess = (dmt : ℕ) → is_dmt dmt ≡ true ↔ IsDmtOfAnAccess dm
 -- behind the service of what is accepted no register waits
 abbrev pub EachLeavesNoneWaiting : Type 0
 EachLeavesNoneWaiting =
-    (input : List ℕ) (told : Case) → verdict input ≡ Ok told → (after_service (serving_of_case told)).control.ssbr ≡ 0
+    (input : List ℕ) (told : Case) → serve_verdict input ≡ Ok told
+    → (after_service (serving_of_case told)).control.ssbr ≡ 0
 
--- the three words of a transaction have 32 bits, and so have all of a record, as a board has them
+-- the three words of a transaction have 32 bits, as a board has them
 pub record IsTripleOfWords (t : Triple) : Type 0 where
   pub dmt : t.dmt < 2 ^ 32
   pub dmd : t.dmd < 2 ^ 32
   pub dma : t.dma < 2 ^ 32
 
-pub record HasWords (r : Record) : Type 0 where
+-- and so have all of a record
+pub record IsRecordOfWords (r : Record) : Type 0 where
   pub epsr : r.epsr < 2 ^ 32
   pub sxip : r.sxip < 2 ^ 32
   pub snip : r.snip < 2 ^ 32
@@ -84,7 +87,7 @@ shown_fault r words = record_lines r ++ flat_map word_line words
 -- is what the service makes of it
 abbrev pub IsServedAt : Program → (ℕ → Bool) → ℕ → Moment → Type 0
 IsServedAt p named limit m =
-    (words : List (ℕ × ℕ)) → HasWords (record_at p named limit m) → AreWordsOf (bus_at p m.retired m.done) words
+    (words : List (ℕ × ℕ)) → IsRecordOfWords (record_at p named limit m) → AreWordsOf (bus_at p m.retired m.done) words
     → IsServed (shown_fault (record_at p named limit m) words)
     (served_text (serving_with (record_at p named limit m) (bus_at p m.retired m.done)))
 

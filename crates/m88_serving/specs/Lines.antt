@@ -14,15 +14,16 @@ abbrev pub word_first : List ℕ → Option (ℕ × List ℕ)
 word_first text = option_map (λ n. (n, drop 8 text)) (hex8_of (take 8 text))
 
 -- the word behind a text that begins another, and what stands behind it
-unfoldable pub word_behind : List ℕ → List ℕ → Option (ℕ × List ℕ)
-word_behind front text = option_and_then word_first (behind_front front text)
+unfoldable pub word_after : List ℕ → List ℕ → Option (ℕ × List ℕ)
+word_after front text = option_and_then word_first (behind_front front text)
 
--- such a word with nothing behind it
+-- a word with nothing behind it
 abbrev pub alone : ℕ × List ℕ → Option ℕ
 alone word = if length word.1 == 0 then Some word.0 else None
 
+-- the word behind a text that begins another, where it ends the text
 unfoldable pub last_word : List ℕ → List ℕ → Option ℕ
-last_word front text = option_and_then alone (word_behind front text)
+last_word front text = option_and_then alone (word_after front text)
 
 -- the status that a line tells: EPSR, the three instruction pointers and SSBR
 unfoldable pub status_in : List ℕ → Option StatusLine
@@ -33,10 +34,10 @@ status_in line =
     option_and_then (λ sfip.
     option_map (λ ssbr. record { epsr = epsr.0; sxip = sxip.0; snip = snip.0; sfip = sfip.0; ssbr = ssbr })
     (last_word (codes " ssbr ") sfip.1))
-    (word_behind (codes " sfip ") snip.1))
-    (word_behind (codes " snip ") sxip.1))
-    (word_behind (codes " sxip ") epsr.1))
-    (word_behind (codes "epsr ") line)
+    (word_after (codes " sfip ") snip.1))
+    (word_after (codes " snip ") sxip.1))
+    (word_after (codes " sxip ") epsr.1))
+    (word_after (codes "epsr ") line)
 
 -- the words of the transaction that a line tells behind its name
 unfoldable pub triple_in : List ℕ → List ℕ → Option Triple
@@ -45,15 +46,15 @@ triple_in name line =
     option_and_then (λ dmd.
     option_map (λ dma. record { dmt = dmt.0; dmd = dmd.0; dma = dma })
     (last_word (codes " ") dmd.1))
-    (word_behind (codes " ") dmt.1))
-    (word_behind name line)
+    (word_after (codes " ") dmt.1))
+    (word_after name line)
 
 -- an address with what it names, where it is that of a word
 abbrev pub at_word : ℕ → ℕ → Option (ℕ × ℕ)
 at_word address value = if address % 4 == 0 then Some (address, value) else None
 
 -- the address and the value of the word of data memory that a line tells
-unfoldable pub word_in : List ℕ → Option (ℕ × ℕ)
-word_in line =
+unfoldable pub named_word_in : List ℕ → Option (ℕ × ℕ)
+named_word_in line =
     option_and_then (λ address. option_and_then (at_word address.0) (last_word (codes " ") address.1))
-    (word_behind (codes "mem ") line)
+    (word_after (codes "mem ") line)

@@ -16,7 +16,7 @@ use Rattle.m88_report.specs.Report.{named_word, word_line}
 use Rattle.m88_serving.specs.Cases.{Case}
 use Rattle.m88_serving.specs.Faults.{serve_reason}
 use Rattle.m88_serving.specs.Serving.{serving_of_case}
-use Rattle.m88_serving.specs.Verdict.{verdict}
+use Rattle.m88_serving.specs.Verdict.{serve_verdict}
 use Rattle.m88_serving.specs.declared.fault.ServeFault.{ServeFault}
 
 -- a mark, where it is set
@@ -33,8 +33,8 @@ abbrev pub first_touched : ℕ → ℕ
 first_touched en = if nat_le 8 en then 0 else if nat_le 4 en then 1 else if nat_le 2 en then 2 else 3
 
 -- the address of the first byte of an access
-abbrev pub place_of : Access → ℕ
-place_of a = a.addr + first_touched a.en
+abbrev pub first_byte_of : Access → ℕ
+first_byte_of a = a.addr + first_touched a.en
 
 -- a byte address behind a word, and what is stored or loaded there
 abbrev pub there_text : List ℕ → ℕ → ℕ → List ℕ
@@ -44,11 +44,11 @@ there_text word place value = word ++ hex8 place ++ codes ": " ++ hex8 value
 unfoldable pub load_text : Access → ℕ → List ℕ
 load_text a datum =
     codes " load" ++ mark (codes " signed") a.signed ++ size_text a.en ++ codes " r" ++ decimal (number_of a.reg)
-    ++ there_text (codes " from ") (place_of a) datum
+    ++ there_text (codes " from ") (first_byte_of a) datum
 
 -- a store, with the whole register whose low bytes are stored
 unfoldable pub store_text : Access → List ℕ
-store_text a = codes " store" ++ size_text a.en ++ there_text (codes " to ") (place_of a) a.value
+store_text a = codes " store" ++ size_text a.en ++ there_text (codes " to ") (first_byte_of a) a.value
 
 -- the line of an access of a transaction by its place, with the datum of a load
 unfoldable pub access_line : ℕ → Access → ℕ → List ℕ
@@ -57,28 +57,28 @@ access_line index a datum =
     ++ (if a.write then store_text a else load_text a datum) ++ line_end
 
 -- the line of a transaction, where it is valid, over these words of data memory
-abbrev pub triple_line : ℕ → Triple → (ℕ → ℕ) → List ℕ
-triple_line index t bus =
+abbrev pub transaction_line : ℕ → Triple → (ℕ → ℕ) → List ℕ
+transaction_line index t bus =
     if is_valid_triple t then access_line index (access_in t) (loaded (access_in t) bus) else []
 
 -- the line of a transaction by its place, before its service
 abbrev pub triple_text : ℕ → Serving → List ℕ
-triple_text index s = triple_line index (triple_at index s.control) s.bus
+triple_text index s = transaction_line index (triple_at index s.control) s.bus
 
 -- the lines of the three transactions, each behind the service of those before it
-abbrev pub accesses_text : Serving → List ℕ
-accesses_text s =
+abbrev pub transactions_text : Serving → List ℕ
+transactions_text s =
     triple_text 0 s ++ triple_text 1 (after_triple 0 s) ++ triple_text 2 (after_triple 1 (after_triple 0 s))
 
 -- the line of a register's value, where it is a member of a set
-abbrev pub register_text : (ℕ → Bool) → List ℕ → ℕ → List ℕ
-register_text set numbers r =
+abbrev pub awaited_text : (ℕ → Bool) → List ℕ → ℕ → List ℕ
+awaited_text set numbers r =
     if set r then named_word (codes "r" ++ decimal r) (slice_index_or numbers r 0) ++ line_end else []
 
 -- the lines of the members among the registers below a number
 unfoldable pub registers_below : (ℕ → Bool) → List ℕ → ℕ → List ℕ
 registers_below set numbers zero = []
-registers_below set numbers (suc r) = registers_below set numbers r ++ register_text set numbers r
+registers_below set numbers (suc r) = registers_below set numbers r ++ awaited_text set numbers r
 
 -- the lines of SSBR and of the two slots
 abbrev pub slots_text : ℕ → ℕ → ℕ → List ℕ
@@ -96,24 +96,24 @@ left_text before after =
 
 -- what is written for what a handler finds
 unfoldable pub served_text : Serving → List ℕ
-served_text s = accesses_text s ++ left_text s (after_service s)
+served_text s = transactions_text s ++ left_text s (after_service s)
 
 -- the line that refuses an input, at column 1
-abbrev pub fault_line : ServeFault → List ℕ
-fault_line fault = refused_line fault.line 1 (serve_reason fault.kind)
+abbrev pub turned_down_line : ServeFault → List ℕ
+turned_down_line fault = refused_line fault.line 1 (serve_reason fault.kind)
 
 -- the text is that of an input that is accepted
 pub record IsServed (input text : List ℕ) : Type 0 where
   pub told : Case
-  pub accepted : verdict input ≡ Ok told
+  pub accepted : serve_verdict input ≡ Ok told
   pub is_text : text ≡ served_text (serving_of_case told)
 
 -- the text is that of an input that is refused
 pub record IsTurnedDown (input text : List ℕ) : Type 0 where
   pub fault : ServeFault
-  pub refused : verdict input ≡ Err fault
-  pub is_text : text ≡ fault_line fault
+  pub refused : serve_verdict input ≡ Err fault
+  pub is_text : text ≡ turned_down_line fault
 
 -- the text answers an input
-abbrev pub IsAnswer : List ℕ → List ℕ → Type 0
-IsAnswer input text = IsServed input text ⊎ IsTurnedDown input text
+abbrev pub IsServedOrTurnedDown : List ℕ → List ℕ → Type 0
+IsServedOrTurnedDown input text = IsServed input text ⊎ IsTurnedDown input text

@@ -9,8 +9,8 @@ use Rattle.m88_monitor.specs.Serving.{Serving}
 use Rattle.m88_serving.specs.Cases.{Case}
 
 -- the control registers that a data fault with a record leaves
-abbrev pub control_of : Record → ControlRegisters
-control_of r =
+abbrev pub control_left : Record → ControlRegisters
+control_left r =
     entered (record { ssbr = r.ssbr; sxip = r.sxip; snip = r.snip; sfip = r.sfip; triples = r.triples })
     (record (at_start false) { psr = r.epsr })
 
@@ -25,7 +25,7 @@ named_bus words = with_words (λ address. 0) words
 
 -- what a handler finds behind a fault with a record, over data memory: the registers aren't told, and count as 0
 abbrev pub serving_with : Record → (ℕ → ℕ) → Serving
-serving_with r bus = record { control = control_of r; numbers = replicate 32 0; bus = bus; absent = no_page }
+serving_with r bus = record { control = control_left r; numbers = replicate 32 0; bus = bus; absent = no_page }
 
 -- what it finds in a case
 abbrev pub serving_of_case : Case → Serving

@@ -1,4 +1,4 @@
--- The verdict on an input: what it tells, or its first fault.
+-- The serve_verdict on an input: what it tells, or its first fault.
 use Rattle.std.specs.Prelude.{◌≡◌, ℕ, List, Option, Some, None, Result, Ok, Err}
 use Rattle.m88_base.specs.Lines.{lines_of}
 use Rattle.m88_serving.specs.Cases.{Case, case_in}
@@ -12,15 +12,15 @@ faultless c None = Ok c
 faultless c (Some fault) = Err fault
 
 -- the form comes first, and then what is told
-abbrev pub judged : Result Case ℕ → Result Case ServeFault
-judged (Err number) = Err (record { line = number; kind = kind.Form })
-judged (Ok c) = faultless c (case_fault c)
+abbrev pub case_verdict : Result Case ℕ → Result Case ServeFault
+case_verdict (Err number) = Err (record { line = number; kind = kind.Form })
+case_verdict (Ok c) = faultless c (case_fault c)
 
--- the verdict on an input
-unfoldable pub verdict : List ℕ → Result Case ServeFault
-verdict input = judged (case_in (lines_of input))
+-- the serve_verdict on an input
+unfoldable pub serve_verdict : List ℕ → Result Case ServeFault
+serve_verdict input = case_verdict (case_in (lines_of input))
 
 -- an input is accepted
-pub record IsAccepted (input : List ℕ) : Type 0 where
+pub record IsTakenCase (input : List ℕ) : Type 0 where
   pub told : Case
-  pub accepted : verdict input ≡ Ok told
+  pub accepted : serve_verdict input ≡ Ok told

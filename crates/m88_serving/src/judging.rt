@@ -1,10 +1,10 @@
 //! What a record can't be.
 ghost use Rattle.std.specs.Prelude.{◌≡◌, None, Some};
-ghost use Rattle.m88_serving.specs.Faults.{first_behind, first_line, first_of, has_datum, has_odd_access, has_odd_address, is_status, is_unempty, record_fault};
+ghost use Rattle.m88_serving.specs.Faults.{first_behind, first_line, first_transaction, has_datum, has_odd_access, has_odd_address, is_status, is_unempty, record_fault};
 
 use crate::access::is_dmt;
 use crate::fault::{ServeFault, ServeKind};
-use crate::loads::loaded_set;
+use crate::loads::awaited_set;
 use m88_base::Triple;
 use m88_event::Record;
 use m88_isa::{access_in, is_valid_triple};
@@ -15,31 +15,31 @@ pub(crate) fn record_fault(fault: &Record) -> Option<ServeFault>
     ensures { result ≡ record_fault fault.now }
 {
     if !is_status(fault.epsr) {
-        return Some(fault_at(1, ServeKind::Epsr));
+        return Some(fault_of_kind(1, ServeKind::Epsr));
     }
     if let Some(line) = odd_access(fault) {
-        return Some(fault_at(line, ServeKind::Access));
+        return Some(fault_of_kind(line, ServeKind::Access));
     }
     if let Some(line) = odd_address(fault) {
-        return Some(fault_at(line, ServeKind::Address));
+        return Some(fault_of_kind(line, ServeKind::Address));
     }
     if let Some(line) = datum(fault) {
-        return Some(fault_at(line, ServeKind::Datum));
+        return Some(fault_of_kind(line, ServeKind::Datum));
     }
     if let Some(line) = unempty(fault) {
-        return Some(fault_at(line, ServeKind::Empty));
+        return Some(fault_of_kind(line, ServeKind::Empty));
     }
     if let Some(line) = behind(fault) {
-        return Some(fault_at(line, ServeKind::Order));
+        return Some(fault_of_kind(line, ServeKind::Order));
     }
-    if fault.ssbr != loaded_set(fault) {
-        return Some(fault_at(1, ServeKind::Ssbr));
+    if fault.ssbr != awaited_set(fault) {
+        return Some(fault_of_kind(1, ServeKind::Ssbr));
     }
     None
 }
 
 /// A fault of a kind at a line.
-fn fault_at(line: u64, kind: ServeKind) -> ServeFault
+fn fault_of_kind(line: u64, kind: ServeKind) -> ServeFault
     ensures { result ≡ record { line = line; kind = kind } }
 {
     ServeFault { line, kind }
@@ -70,7 +70,7 @@ fn first_line(t0: bool, t1: bool, t2: bool) -> Option<u64>
 
 /// The line of the first valid transaction whose DMT no access has.
 fn odd_access(fault: &Record) -> Option<u64>
-    ensures { result ≡ first_of has_odd_access fault.now }
+    ensures { result ≡ first_transaction has_odd_access fault.now }
 {
     let [t0, t1, t2] = &fault.triples;
     first_line(has_odd_access(t0), has_odd_access(t1), has_odd_access(t2))
@@ -86,7 +86,7 @@ fn has_odd_access(triple: &Triple) -> bool
 
 /// The line of the first valid transaction whose address is that of no word.
 fn odd_address(fault: &Record) -> Option<u64>
-    ensures { result ≡ first_of has_odd_address fault.now }
+    ensures { result ≡ first_transaction has_odd_address fault.now }
 {
     let [t0, t1, t2] = &fault.triples;
     first_line(
@@ -106,7 +106,7 @@ fn has_odd_address(triple: &Triple) -> bool
 
 /// The line of the first load with a datum.
 fn datum(fault: &Record) -> Option<u64>
-    ensures { result ≡ first_of has_datum fault.now }
+    ensures { result ≡ first_transaction has_datum fault.now }
 {
     let [t0, t1, t2] = &fault.triples;
     first_line(has_datum(t0), has_datum(t1), has_datum(t2))
@@ -122,7 +122,7 @@ fn has_datum(triple: &Triple) -> bool
 
 /// The line of the first transaction that isn't valid, and has a word other than 0.
 fn unempty(fault: &Record) -> Option<u64>
-    ensures { result ≡ first_of is_unempty fault.now }
+    ensures { result ≡ first_transaction is_unempty fault.now }
 {
     let [t0, t1, t2] = &fault.triples;
     first_line(is_unempty(t0), is_unempty(t1), is_unempty(t2))

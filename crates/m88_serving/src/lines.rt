@@ -1,6 +1,6 @@
 //! What a line of the input tells.
 ghost use Rattle.std.specs.Prelude.{◌≡◌, MatchOption, None, Some};
-ghost use Rattle.m88_serving.specs.Lines.{behind_front, last_word, status_in, triple_in, word_behind, word_in};
+ghost use Rattle.m88_serving.specs.Lines.{behind_front, last_word, status_in, triple_in, word_after, named_word_in};
 
 use m88_base::{Triple, hex8_of};
 
@@ -19,10 +19,10 @@ pub struct StatusLine {
 pub(crate) fn status_in(line: &[u8]) -> Option<StatusLine>
     ensures { result ≡ status_in line.now }
 {
-    let (epsr, rest) = word_behind(b"epsr ", line)?;
-    let (sxip, rest) = word_behind(b" sxip ", rest)?;
-    let (snip, rest) = word_behind(b" snip ", rest)?;
-    let (sfip, rest) = word_behind(b" sfip ", rest)?;
+    let (epsr, rest) = word_after(b"epsr ", line)?;
+    let (sxip, rest) = word_after(b" sxip ", rest)?;
+    let (snip, rest) = word_after(b" snip ", rest)?;
+    let (sfip, rest) = word_after(b" sfip ", rest)?;
     let ssbr = last_word(b" ssbr ", rest)?;
     Some(StatusLine {
         epsr,
@@ -38,18 +38,18 @@ pub(crate) fn status_in(line: &[u8]) -> Option<StatusLine>
 pub(crate) fn triple_in(name: &[u8], line: &[u8]) -> Option<Triple>
     ensures { result ≡ triple_in name.now line.now }
 {
-    let (dmt, rest) = word_behind(name, line)?;
-    let (dmd, rest) = word_behind(b" ", rest)?;
+    let (dmt, rest) = word_after(name, line)?;
+    let (dmd, rest) = word_after(b" ", rest)?;
     let dma = last_word(b" ", rest)?;
     Some(Triple { dmt, dmd, dma })
 }
 
 /// The byte address and the value of the word of data memory that a line tells.
-#[tactic(auto, unfolding(crate::specs::Lines::word_in))]
-pub(crate) fn word_in(line: &[u8]) -> Option<(u32, u32)>
-    ensures { result ≡ word_in line.now }
+#[tactic(auto, unfolding(crate::specs::Lines::named_word_in))]
+pub(crate) fn named_word_in(line: &[u8]) -> Option<(u32, u32)>
+    ensures { result ≡ named_word_in line.now }
 {
-    let (address, rest) = word_behind(b"mem ", line)?;
+    let (address, rest) = word_after(b"mem ", line)?;
     let value = last_word(b" ", rest)?;
     if address % 4 == 0 {
         Some((address, value))
@@ -63,15 +63,15 @@ pub(crate) fn word_in(line: &[u8]) -> Option<(u32, u32)>
 fn last_word(front: &[u8], text: &[u8]) -> Option<u32>
     ensures { result ≡ last_word front.now text.now }
 {
-    let (word, behind) = word_behind(front, text)?;
+    let (word, behind) = word_after(front, text)?;
     if behind.is_empty() { Some(word) } else { None }
 }
 
 /// The word behind a text that begins another, and what stands behind it.
-#[tactic(auto, unfolding(crate::specs::Lines::word_behind))]
-fn word_behind<'a>(front: &[u8], text: &'a [u8]) -> Option<(u32, &'a [u8])>
-    ensures { MatchOption result (word_behind front.now text.now ≡ None)
-        (λ p. word_behind front.now text.now ≡ Some (p.0, p.1.now)) }
+#[tactic(auto, unfolding(crate::specs::Lines::word_after))]
+fn word_after<'a>(front: &[u8], text: &'a [u8]) -> Option<(u32, &'a [u8])>
+    ensures { MatchOption result (word_after front.now text.now ≡ None)
+        (λ p. word_after front.now text.now ≡ Some (p.0, p.1.now)) }
 {
     let rest = behind_front(front, text)?;
     if rest.len() < 8 {

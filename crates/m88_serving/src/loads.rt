@@ -1,7 +1,7 @@
 //! The registers that the transactions of a record load.
 ghost use Rattle.std.specs.Prelude.{◌≡◌};
 ghost use Rattle.m88_scoreboard.specs.Registers.{waiting_of};
-ghost use Rattle.m88_serving.specs.Faults.{loaded_set};
+ghost use Rattle.m88_serving.specs.Faults.{awaited_set};
 ghost use Rattle.m88_serving.specs.Inside.Steps.{with_load};
 
 use m88_base::Triple;
@@ -11,8 +11,8 @@ use m88_scoreboard::RegFile;
 
 /// The set of the registers that the valid transactions of a record load, a bit for each, r0 left out.
 #[tactic(auto, using(crate::proofs::Marked::loads_all))]
-pub(crate) fn loaded_set(fault: &Record) -> u32
-    ensures { result ≡ loaded_set fault.now }
+pub(crate) fn awaited_set(fault: &Record) -> u32
+    ensures { result ≡ awaited_set fault.now }
 {
     let [t0, t1, t2] = &fault.triples;
     let mut waiting = RegFile::new();

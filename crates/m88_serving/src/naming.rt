@@ -1,6 +1,6 @@
 //! The words of data memory before, as an image.
 ghost use Rattle.std.specs.Prelude.{◌≡◌, ◌%◌, All, IfOk, MatchBool};
-ghost use Rattle.m88_serving.specs.Inside.Naming.{HasWord, IsNaming, PutsWord};
+ghost use Rattle.m88_serving.specs.Inside.Naming.{StoodBefore, IsNaming, NamesOneMore};
 
 use m88_base::{Image, ImageFault, NoMemory};
 use std::alloc::Global;
@@ -36,7 +36,7 @@ pub(crate) fn name_all(alloc: Global, words: &[(u32, u32)]) -> Result<Naming, No
 fn name(image: &mut Image, at: u32, value: u32) -> Result<bool, NoMemory>
     requires { at % 4 ≡ 0 }
     ensures { IfOk result (λ put.
-        MatchBool put (PutsWord image.old image.new at value) (HasWord image.old at)) }
+        MatchBool put (NamesOneMore image.old image.new at value) (StoodBefore image.old at)) }
 {
     match image.add(at, &value.to_be_bytes()) {
         Ok(()) => Ok(true),

@@ -6,12 +6,12 @@ ghost use Rattle.m88_base.specs.Causes.{Rose};
 ghost use Rattle.m88_base.specs.Outside.{AppendsPart, GivesAll, IsWhole, TakesAtMost, TakesExactly};
 ghost use Rattle.m88_base.specs.Reading.{ReadsSource, most_input};
 ghost use Rattle.m88_base.specs.Status.{Answers, IsAnswered, IsOfReading, WritesNothing};
-ghost use Rattle.m88_serving.specs.Calls.{HasInput, IsTold};
+ghost use Rattle.m88_serving.specs.Calls.{IsLeft, IsCalled};
 ghost use Rattle.m88_serving.specs.Laws.{EachDmtIsOfAnAccess, EachFaultIsServed, EachInputHasOneVerdict, EachLeavesNoneWaiting};
-ghost use Rattle.m88_serving.specs.Served.{IsAnswer, IsServed, IsTurnedDown, fault_line};
-ghost use Rattle.m88_serving.specs.Verdict.{IsAccepted, verdict};
+ghost use Rattle.m88_serving.specs.Served.{IsServedOrTurnedDown, IsServed, IsTurnedDown, turned_down_line};
+ghost use Rattle.m88_serving.specs.Verdict.{IsTakenCase, serve_verdict};
 ghost use Rattle.m88_serving.specs.declared.fault.ServeFault.{ServeFault as FaultValue};
-ghost use Rattle.m88_serving.specs.Inside.Replies.{Replies};
+ghost use Rattle.m88_serving.specs.Inside.Replies.{RepliesServed};
 
 use crate::reply::reply_to;
 use m88_base::{MOST_INPUT, Reply, Sink, Source, Status, read_all};
@@ -43,19 +43,19 @@ pub fn m88serve<S: Source, K: Sink>(
     // The input is accepted, was read to its end, and the sink was given what a handler must come to, by no more
     // calls than that has bytes.
     ensures done { result ≡ Status.Done
-        → IsTold (S.left source.old) (S.left source.new) IsServed
+        → IsCalled (S.left source.old) (S.left source.new) IsServed
         (λ text. Appends (K.held sink.old) (K.held sink.new) text
         × CallsWithin (length text) (K.calls sink.old) (K.calls sink.new)) }
 
     // The input is not accepted, and the sink was given the line that says so in the same way; an input whose line
     // stands whole in the sink was refused.
     ensures refused { result ≡ Status.Refused
-        → IsTold (S.left source.old) (S.left source.new) IsTurnedDown
+        → IsCalled (S.left source.old) (S.left source.new) IsTurnedDown
         (λ text. Appends (K.held sink.old) (K.held sink.new) text
         × CallsWithin (length text) (K.calls sink.old) (K.calls sink.new)) }
-    ensures refusal { (bytes : List ℕ) (fault : FaultValue) → verdict bytes ≡ Err fault
+    ensures refusal { (bytes : List ℕ) (fault : FaultValue) → serve_verdict bytes ≡ Err fault
         → S.left source.old ≡ Some bytes → S.left source.new ≡ Some []
-        → IsWhole (K.held sink.old) (K.held sink.new) (fault_line fault)
+        → IsWhole (K.held sink.old) (K.held sink.new) (turned_down_line fault)
         → result ≡ Status.Refused }
 
     // The sink failed, and was given a front of the text that lacks at least one byte, by no more calls than the
@@ -63,7 +63,7 @@ pub fn m88serve<S: Source, K: Sink>(
     ensures sink_fault { result ≡ Status.SinkFault
         → Rose (K.faults sink.old) (K.faults sink.new) }
     ensures part { result ≡ Status.SinkFault
-        → IsTold (S.left source.old) (S.left source.new) IsAnswer
+        → IsCalled (S.left source.old) (S.left source.new) IsServedOrTurnedDown
         (λ text. AppendsPart (K.held sink.old) (K.held sink.new) text
         × CallsWithin (length text) (K.calls sink.old) (K.calls sink.new)) }
 
@@ -73,10 +73,10 @@ pub fn m88serve<S: Source, K: Sink>(
 
     // Without words, and where nothing failed, an input that is not too long is answered: Done if it is
     // accepted, Refused if it is not, or Memory.
-    ensures complete { (bytes : List ℕ) → length words.now ≡ 0 → HasInput (S.left source.old) bytes
+    ensures complete { (bytes : List ℕ) → length words.now ≡ 0 → IsLeft (S.left source.old) bytes
         → ¬ Rose (S.faults source.old) (S.faults source.new)
         → ¬ Rose (K.faults sink.old) (K.faults sink.new)
-        → Answers (IsAccepted bytes) result }
+        → Answers (IsTakenCase bytes) result }
 
     // With every other answer nothing is written.
     ensures unwritten { WritesNothing result → sink.new ≡ sink.old }
@@ -102,7 +102,7 @@ pub fn m88serve<S: Source, K: Sink>(
 /// The reply to what a source gives, or why there is none.
 fn reply_from<S: Source>(alloc: Global, source: &mut S) -> Result<Reply, Status>
     ensures ok { IfOk result (λ reply. (bytes : List ℕ)
-        × GivesAll (S.left source.old) (S.left source.new) bytes × Replies bytes reply) }
+        × GivesAll (S.left source.old) (S.left source.new) bytes × RepliesServed bytes reply) }
     ensures reading { ReadsSource Status.SourceFault Status.TooLong S.left S.calls S.faults
         source.old source.new result }
     ensures status { IfErr result IsOfReading }

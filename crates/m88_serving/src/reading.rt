@@ -1,11 +1,11 @@
 //! The lines of an input, one after the other.
 ghost use Rattle.std.specs.Prelude.{◌≡◌, ◌%◌, All, MatchOption, None, Some, Ok, IfErr, IfOk};
 ghost use Rattle.m88_base.specs.Lines.{lines_of};
-ghost use Rattle.m88_serving.specs.Cases.{case_in, first_told, words_from};
+ghost use Rattle.m88_serving.specs.Cases.{case_in, first_told, words_told};
 ghost use Rattle.m88_serving.specs.Lines.{status_in, triple_in};
 ghost use Rattle.m88_serving.specs.Inside.Replies.{IsNotOfTheForm, case_of};
 
-use crate::lines::{StatusLine, status_in, triple_in, word_in};
+use crate::lines::{StatusLine, named_word_in, status_in, triple_in};
 use m88_base::{Triple, first_line};
 use m88_event::Record;
 use std::alloc::Global;
@@ -106,8 +106,8 @@ fn first_triple<'a>(name: &[u8], rest: &'a [u8]) -> Option<(Triple, &'a [u8])>
 
 /// The words that the lines from line 5 on tell.
 fn words_in(alloc: Global, lines: &[u8]) -> Result<Vec<(u32, u32)>, Unread>
-    ensures ok { IfOk result (λ words. words_from 5 (lines_of lines.now) ≡ Ok words.items) }
-    ensures form { IfErr result (IsNotOfTheForm (words_from 5 (lines_of lines.now))) }
+    ensures ok { IfOk result (λ words. words_told 5 (lines_of lines.now) ≡ Ok words.items) }
+    ensures form { IfErr result (IsNotOfTheForm (words_told 5 (lines_of lines.now))) }
     ensures each { IfOk result (λ words. All (λ word. word.0 % 4 ≡ 0) words.items) }
 {
     let mut words = Vec::new(alloc);
@@ -115,7 +115,7 @@ fn words_in(alloc: Global, lines: &[u8]) -> Result<Vec<(u32, u32)>, Unread>
     let mut number: u64 = 5;
     while !rest.is_empty() {
         let (line, behind) = first_line(rest);
-        let Some(word) = word_in(line) else {
+        let Some(word) = named_word_in(line) else {
             return Err(Unread::Form(number));
         };
         let Ok(()) = words.push(word) else {

@@ -3,9 +3,9 @@ ghost use Rattle.std.specs.Prelude.{◌≡◌, ◌≤◌, IfOk, None, false, len
 ghost use Rattle.m88_base.specs.Reading.{most_input};
 ghost use Rattle.m88_mem.specs.DataBus.{image_bus};
 ghost use Rattle.m88_serving.specs.Faults.{record_fault};
-ghost use Rattle.m88_serving.specs.Served.{fault_line, served_text};
+ghost use Rattle.m88_serving.specs.Served.{turned_down_line, served_text};
 ghost use Rattle.m88_serving.specs.Serving.{serving_with};
-ghost use Rattle.m88_serving.specs.Inside.Replies.{Replies};
+ghost use Rattle.m88_serving.specs.Inside.Replies.{RepliesServed};
 
 use crate::fault::ServeKind;
 use crate::judging::record_fault;
@@ -22,7 +22,7 @@ use std::alloc::Global;
 /// The reply to an input.
 pub(crate) fn reply_to(alloc: Global, input: &[u8]) -> Result<Reply, NoMemory>
     requires { length input.now ≤ most_input }
-    ensures { IfOk result (Replies input.now) }
+    ensures { IfOk result (RepliesServed input.now) }
 {
     let told = match told_in(alloc, input) {
         Ok(told) => told,
@@ -42,7 +42,7 @@ pub(crate) fn reply_to(alloc: Global, input: &[u8]) -> Result<Reply, NoMemory>
 fn refuse(alloc: Global, line: u64, kind: ServeKind) -> Result<Reply, NoMemory>
     ensures accepted { IfOk result (λ reply. reply.accepted ≡ false) }
     ensures text { IfOk result (λ reply.
-        reply.text.items ≡ fault_line (record { line = line; kind = kind })) }
+        reply.text.items ≡ turned_down_line (record { line = line; kind = kind })) }
 {
     let mut text = Vec::new(alloc);
     push_refused(&mut text, line, 1, kind.reason())?;

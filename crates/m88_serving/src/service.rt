@@ -8,8 +8,8 @@ ghost use Rattle.m88_isa.specs.Lanes.{IsEnable};
 ghost use Rattle.m88_mem.specs.DataBus.{bus_of};
 ghost use Rattle.m88_monitor.specs.Serving.{without_bit};
 ghost use Rattle.m88_scoreboard.specs.Registers.{none_waits, waiting_of};
-ghost use Rattle.m88_serving.specs.Served.{access_line, triple_line};
-ghost use Rattle.m88_serving.specs.Inside.Steps.{CanMake, CanMakeAll, held_after, held_behind, held_behind_all, held_of, lines_of_triples};
+ghost use Rattle.m88_serving.specs.Served.{access_line, transaction_line};
+ghost use Rattle.m88_serving.specs.Inside.Steps.{IsServable, AreServable, held_after, held_behind, held_behind_all, held_of, lines_of_triples};
 
 use crate::text::push_access;
 use m88_base::{NoMemory, Reg, Triple};
@@ -32,8 +32,9 @@ pub(crate) fn serve_all(
     text: &mut Vec<u8>,
 ) -> Result<(), NoMemory>
     requires waiting { waiting_of service.old.regs ≡ none_waits }
-    requires able { CanMakeAll triples.now }
-    ensures served { OnOk result (held_of service.new ≡ held_behind_all triples.now (held_of service.old)) }
+    requires able { AreServable triples.now }
+    ensures served { OnOk result
+        (held_of service.new ≡ held_behind_all triples.now (held_of service.old)) }
     ensures waiting { OnOk result (waiting_of service.new.regs ≡ none_waits) }
     ensures image { OnOk result (service.new.memory.image ≡ service.old.memory.image) }
     ensures text { OnOk result (text.new.items
@@ -55,12 +56,13 @@ fn serve(
     text: &mut Vec<u8>,
 ) -> Result<(), NoMemory>
     requires waiting { waiting_of service.old.regs ≡ none_waits }
-    requires able { CanMake triple.now }
-    ensures served { OnOk result (held_of service.new ≡ held_behind triple.now (held_of service.old)) }
+    requires able { IsServable triple.now }
+    ensures served { OnOk result
+        (held_of service.new ≡ held_behind triple.now (held_of service.old)) }
     ensures waiting { OnOk result (waiting_of service.new.regs ≡ none_waits) }
     ensures image { OnOk result (service.new.memory.image ≡ service.old.memory.image) }
     ensures text { OnOk result (text.new.items
-        ≡ text.old.items ++ triple_line index triple.now (bus_of service.old.memory)) }
+        ≡ text.old.items ++ transaction_line index triple.now (bus_of service.old.memory)) }
 {
     if !is_valid_triple(triple) {
         return Ok(());
@@ -79,7 +81,8 @@ fn make(
     requires waiting { waiting_of service.old.regs ≡ none_waits }
     requires word { access.now.addr % 4 ≡ 0 }
     requires enable { IsEnable access.now.en }
-    ensures served { OnOk result (held_of service.new ≡ held_after access.now (held_of service.old)) }
+    ensures served { OnOk result
+        (held_of service.new ≡ held_after access.now (held_of service.old)) }
     ensures waiting { OnOk result (waiting_of service.new.regs ≡ none_waits) }
     ensures image { OnOk result (service.new.memory.image ≡ service.old.memory.image) }
     ensures text { OnOk result (text.new.items ≡ text.old.items

@@ -4,7 +4,7 @@ ghost use Rattle.std.specs.List.{flat_map};
 ghost use Rattle.m88_base.specs.RegisterSet.{registers_in};
 ghost use Rattle.m88_isa.specs.Lanes.{IsEnable};
 ghost use Rattle.m88_report.specs.Report.{word_line};
-ghost use Rattle.m88_serving.specs.Served.{access_line, first_touched, load_text, mark, place_of, register_text, registers_below, size_text, slots_text, store_text, there_text};
+ghost use Rattle.m88_serving.specs.Served.{access_line, first_touched, load_text, mark, first_byte_of, awaited_text, registers_below, size_text, slots_text, store_text, there_text};
 
 use m88_base::{push_decimal, push_hex8};
 use m88_isa::Access;
@@ -47,7 +47,7 @@ fn push_load(text: &mut Vec<u8>, access: &Access, datum: u32) -> Result<(), Allo
     text.extend_from_slice(size_text(access.en))?;
     text.extend_from_slice(b" r")?;
     push_decimal(text, u64::from(access.reg.number()))?;
-    push_there(text, b" from ", place_of(access), datum)?;
+    push_there(text, b" from ", first_byte_of(access), datum)?;
     Ok(())
 }
 
@@ -60,7 +60,7 @@ fn push_store(text: &mut Vec<u8>, access: &Access) -> Result<(), AllocError>
 {
     text.extend_from_slice(b" store")?;
     text.extend_from_slice(size_text(access.en))?;
-    push_there(text, b" to ", place_of(access), access.value)?;
+    push_there(text, b" to ", first_byte_of(access), access.value)?;
     Ok(())
 }
 
@@ -97,9 +97,9 @@ fn size_text(en: u8) -> &'static [u8]
 }
 
 /// The byte address of the first byte of an access.
-fn place_of(access: &Access) -> u32
+fn first_byte_of(access: &Access) -> u32
     requires { access.now.addr % 4 ≡ 0 }
-    ensures { result ≡ place_of access.now }
+    ensures { result ≡ first_byte_of access.now }
 {
     access.addr + first_touched(access.en)
 }
@@ -145,7 +145,7 @@ fn push_register(
 ) -> Result<(), AllocError>
     requires { r < 32 }
     ensures { OnOk result (text.new.items
-        ≡ text.old.items ++ register_text (registers_in set) values.now r) }
+        ≡ text.old.items ++ awaited_text (registers_in set) values.now r) }
 {
     if is_member(set, r as u32) {
         text.push(b'r')?;

@@ -10,13 +10,13 @@ use Rattle.m88_serving.specs.declared.naming.Naming.{Naming as NamingValue}
 use Rattle.m88_serving.specs.declared.naming.Naming.TheVariants.{Named, Twice}
 
 -- a word was put into an image at an address that had no byte of a word
-pub record PutsWord (old new : ProgramImage) (at value : ℕ) : Type 0 where
+pub record NamesOneMore (old new : ProgramImage) (at value : ℕ) : Type 0 where
   pub free : byte_at old at ≡ None
   pub bus : image_bus new ≡ with_word (image_bus old) at value
   pub taken : (a : ℕ) → is_some (byte_at new a) ≡ (is_some (byte_at old a) || word_address a == at)
 
 -- a byte of the word stood there before
-pub record HasWord (old : ProgramImage) (at : ℕ) : Type 0 where
+pub record StoodBefore (old : ProgramImage) (at : ℕ) : Type 0 where
   pub a : ℕ
   pub inside : word_address a ≡ at
   pub found : is_some (byte_at old a) ≡ true

@@ -18,10 +18,10 @@ IsNotOfTheForm told (unread.Form number) = told ≡ Err number
 IsNotOfTheForm told unread.Memory = Unit {0}
 
 -- words behind others
-abbrev pub joined : List (ℕ × ℕ) → Result (List (ℕ × ℕ)) ℕ → Result (List (ℕ × ℕ)) ℕ
-joined words (Ok more) = Ok (words ++ more)
-joined words (Err number) = Err number
+abbrev pub words_behind : List (ℕ × ℕ) → Result (List (ℕ × ℕ)) ℕ → Result (List (ℕ × ℕ)) ℕ
+words_behind words (Ok more) = Ok (words ++ more)
+words_behind words (Err number) = Err number
 
 -- the reply's text answers an input that is accepted or not, as the reply says
-abbrev pub Replies : List ℕ → Reply → Type 0
-Replies input r = AnswersAs (IsServed input) (IsTurnedDown input) r
+abbrev pub RepliesServed : List ℕ → Reply → Type 0
+RepliesServed input r = AnswersAs (IsServed input) (IsTurnedDown input) r

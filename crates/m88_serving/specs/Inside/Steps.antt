@@ -9,7 +9,7 @@ use Rattle.m88_isa.specs.declared.planned.Access.{Access}
 use Rattle.m88_isa.specs.Lanes.{IsEnable}
 use Rattle.m88_mem.specs.DataBus.{bus_of}
 use Rattle.m88_monitor.specs.Serving.{Serving, without_bit}
-use Rattle.m88_serving.specs.Served.{triple_line}
+use Rattle.m88_serving.specs.Served.{transaction_line}
 use Rattle.m88_serving.specs.declared.service.Service.{Service}
 
 -- a set with the register that a transaction loads, where it is a valid load
@@ -24,8 +24,8 @@ pub record Held : Type 0 where
   pub ssbr : ℕ
 
 -- these of what a handler finds
-abbrev pub held_in : Serving → Held
-held_in s = record { numbers = s.numbers; bus = s.bus; ssbr = s.control.ssbr }
+abbrev pub handled : Serving → Held
+handled s = record { numbers = s.numbers; bus = s.bus; ssbr = s.control.ssbr }
 
 -- these after an access
 abbrev pub held_after : Access → Held → Held
@@ -48,9 +48,9 @@ held_behind_all triples h =
 -- the lines of three transactions, each behind the service of those before it
 abbrev pub lines_of_triples : List Triple → Held → List ℕ
 lines_of_triples triples h =
-    triple_line 0 (slice_index_or triples 0 no_triple) h.bus
-    ++ triple_line 1 (slice_index_or triples 1 no_triple) (held_behind (slice_index_or triples 0 no_triple) h).bus
-    ++ triple_line 2 (slice_index_or triples 2 no_triple)
+    transaction_line 0 (slice_index_or triples 0 no_triple) h.bus
+    ++ transaction_line 1 (slice_index_or triples 1 no_triple) (held_behind (slice_index_or triples 0 no_triple) h).bus
+    ++ transaction_line 2 (slice_index_or triples 2 no_triple)
     (held_behind (slice_index_or triples 1 no_triple) (held_behind (slice_index_or triples 0 no_triple) h)).bus
 
 -- what a service has come to
@@ -58,12 +58,12 @@ abbrev pub held_of : Service → Held
 held_of service = record { numbers = service.regs.numbers; bus = bus_of service.memory; ssbr = service.ssbr }
 
 -- a valid transaction is an access to some bytes of a word
-pub record CanMake (t : Triple) : Type 0 where
+pub record IsServable (t : Triple) : Type 0 where
   pub word : is_valid_triple t ≡ true → (access_in t).addr % 4 ≡ 0
   pub enable : is_valid_triple t ≡ true → IsEnable (access_in t).en
 
 -- and so is each of three
-pub record CanMakeAll (triples : List Triple) : Type 0 where
-  pub first : CanMake (slice_index_or triples 0 no_triple)
-  pub second : CanMake (slice_index_or triples 1 no_triple)
-  pub third : CanMake (slice_index_or triples 2 no_triple)
+pub record AreServable (triples : List Triple) : Type 0 where
+  pub first : IsServable (slice_index_or triples 0 no_triple)
+  pub second : IsServable (slice_index_or triples 1 no_triple)
+  pub third : IsServable (slice_index_or triples 2 no_triple)

@@ -2,8 +2,8 @@
 use Rattle.std.proofs.Common.{subst}
 use Rattle.m88_base.proofs.Laws.{answered, not_part, not_whole, only_refused}
 use Rattle.m88_base.specs.Outside.{AppendsPart}
-use Rattle.m88_serving.specs.Served.{fault_line}
-use Rattle.m88_serving.specs.Verdict.{IsAccepted}
+use Rattle.m88_serving.specs.Served.{turned_down_line}
+use Rattle.m88_serving.specs.Verdict.{IsTakenCase}
 use Rattle.m88_serving.proofs.Laws.{each_input_has_one_verdict}
 use Rattle.m88_serving.proofs.Dmts.{each_dmt_is_of_an_access}
 use Rattle.m88_serving.proofs.Emptied.{each_leaves_none_waiting}
@@ -13,11 +13,11 @@ use Rattle.m88_serving.proofs.program.m88serve.Goals as goal
 
 pub returns-then-not-is_empty-clause-refusal : goal.returns-then-not-is_empty-clause-refusal
 returns-then-not-is_empty-clause-refusal g c = λ bytes fault refused had left whole.
-    absurd (not_whole _ (fault_line fault) (fault_line_some fault) whole)
+    absurd (not_whole _ (turned_down_line fault) (fault_line_some fault) whole)
 
 pub returns-in-Err-clause-refusal : goal.returns-in-Err-clause-refusal
 returns-in-Err-clause-refusal g c = λ bytes fault refused had left whole.
-    absurd (not_whole _ (fault_line fault) (fault_line_some fault) whole)
+    absurd (not_whole _ (turned_down_line fault) (fault_line_some fault) whole)
 
 pub returns-in-Ok-clause-refusal : goal.returns-in-Ok-clause-refusal
 returns-in-Ok-clause-refusal g c = λ bytes fault refused had left whole.
@@ -25,14 +25,14 @@ returns-in-Ok-clause-refusal g c = λ bytes fault refused had left whole.
     let text = text_of_reply bytes fault c.in-Ok.reply refused replies in
     only_refused c.write_to.result c.write_to.ensures.written
     (λ e. let done = c.write_to.ensures.done e in let served = rw done.0 at replies in not_both bytes served.told fault served.accepted refused)
-    (λ e. not_part _ _ (fault_line fault)
+    (λ e. not_part _ _ (turned_down_line fault)
     (subst (λ t. AppendsPart (g.K.Sink.held c.args.sink.now) (g.K.Sink.held c.write_to.new.sink) t) text (c.write_to.ensures.part e)) whole)
 
 pub returns-in-Ok-clause-complete : goal.returns-in-Ok-clause-complete
 returns-in-Ok-clause-complete g c = λ bytes none had unbroken unfailing.
     let ok = c.in-Ok.ensures.ok in
     let replies = reply_given _ _ bytes c.in-Ok.reply had.0 ok in
-    answered (IsAccepted bytes) c.write_to.result c.write_to.ensures.written
+    answered (IsTakenCase bytes) c.write_to.result c.write_to.ensures.written
     (λ e. let done = c.write_to.ensures.done e in let served = rw done.0 at replies in record { told = served.told; accepted = served.accepted })
     (λ e. let refused = c.write_to.ensures.refused e in
     let down = rw refused.0 at replies in

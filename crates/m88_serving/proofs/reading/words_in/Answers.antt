@@ -3,15 +3,15 @@ use Rattle.std.proofs.Common.{◌≡◌, ◌∙◌, ◌+◌, ◌%◌, ℕ, All, 
 use Rattle.std.proofs.lemmas.Grind.{common_steps}
 use Rattle.std.proofs.lemmas.List.Elements.{All-push}
 use Rattle.m88_base.specs.Lines.{lines_of}
-use Rattle.m88_serving.specs.Cases.{words_from}
-use Rattle.m88_serving.specs.Inside.Replies.{joined}
+use Rattle.m88_serving.specs.Cases.{words_told}
+use Rattle.m88_serving.specs.Inside.Replies.{words_behind}
 use Rattle.m88_serving.proofs.Taken.{word_aligned, words_last, words_more, words_wrong}
 use Rattle.m88_serving.proofs.reading.words_in.Goals as goal
 
 pub loop-rest-preserved : goal.loop-rest-preserved
 loop-rest-preserved c = record {
   same =
-      ap (λ (ws : List (ℕ × ℕ)). joined ws (words_from (c.loop-rest.number + 1) (lines_of c.first_line.result.1.now))) c.in-Ok.ensures.items
+      ap (λ (ws : List (ℕ × ℕ)). words_behind ws (words_told (c.loop-rest.number + 1) (lines_of c.first_line.result.1.now))) c.in-Ok.ensures.items
       ∙ words_more c.loop-rest.words.items c.loop-rest.number c.first_line.result.0.now c.loop-rest.rest.now c.first_line.result.1.now c.in-Some.word
       c.first_line.ensures.lines (sym c.in-Some.ensures)
       ∙ c.loop-rest.invariant.same;
@@ -25,7 +25,7 @@ pub returns-in_default-clause-form : goal.returns-in_default-clause-form
 returns-in_default-clause-form c =
     sym c.loop-rest.invariant.same
     ∙ words_wrong c.loop-rest.words.items c.loop-rest.number c.first_line.result.0.now c.loop-rest.rest.now c.first_line.result.1.now
-    c.first_line.ensures.lines (sym c.word_in.ensures ∙ c.in_default.is)
+    c.first_line.ensures.lines (sym c.named_word_in.ensures ∙ c.in_default.is)
 
 pub returns-clause-ok : goal.returns-clause-ok
 returns-clause-ok c =
