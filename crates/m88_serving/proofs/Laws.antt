@@ -1,4 +1,4 @@
--- The serve_verdict on an input is one.
+-- The verdict on an input is one.
 use Rattle.std.specs.Prelude.{ℕ, ◌≡◌, ◌⊎◌, List, Result, Ok, Err}
 use Rattle.std.proofs.Common.{refl, sym, ◌∙◌, inl, inr}
 use Rattle.m88_serving.specs.Cases.{Case}

@@ -1,4 +1,4 @@
--- The serve_verdict on an input: what it tells, or its first fault.
+-- The verdict on an input: what it tells, or its first fault.
 use Rattle.std.specs.Prelude.{◌≡◌, ℕ, List, Option, Some, None, Result, Ok, Err}
 use Rattle.m88_base.specs.Lines.{lines_of}
 use Rattle.m88_serving.specs.Cases.{Case, case_in}
@@ -16,7 +16,7 @@ abbrev pub case_verdict : Result Case ℕ → Result Case ServeFault
 case_verdict (Err number) = Err (record { line = number; kind = kind.Form })
 case_verdict (Ok c) = faultless c (case_fault c)
 
--- the serve_verdict on an input
+-- the verdict on an input
 unfoldable pub serve_verdict : List ℕ → Result Case ServeFault
 serve_verdict input = case_verdict (case_in (lines_of input))
 

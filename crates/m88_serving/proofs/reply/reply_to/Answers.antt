@@ -1,4 +1,4 @@
--- The reply by what was read, case_verdict and named.
+-- The reply by what was read, judged and named.
 use Rattle.std.proofs.Common.{◌∙◌, sym}
 use Rattle.m88_mem.specs.DataBus.{image_bus}
 use Rattle.m88_serving.specs.Inside.Replies.{case_of}

@@ -1,0 +1,21 @@
+-- What only helps the proofs.
+pub mod Reached
+pub mod Written
+pub mod OneSource
+pub mod Appending
+pub mod Items
+pub mod Words
+pub mod Asking
+pub mod Verdicts
+pub mod Outlining
+pub mod Cutting
+pub mod Piecing
+pub mod Labelled
+pub mod TextLines
+pub mod Names
+pub mod Listed
+pub mod Places
+pub mod Told
+pub mod Runs
+pub mod Rebuilt
+pub mod Targeting

@@ -1,0 +1,444 @@
+-- The source of an image builds the image again.
+use Rattle.std.proofs.Common.{◌≡◌, ◌⊎◌, ℕ, zero, suc, ◌+◌, ◌%◌, ◌<◌, ◌≤◌, ◌^◌, inl, inr, List, [], ◌∷◌, ◌++◌, length, get_or, refl, sym, ap, subst, ◌∙◌, arith, append_assoc, codes, length-append}
+use Rattle.std.specs.Prelude.{Contains, IsSome, None, Option, Some, map}
+use Rattle.std.specs.Cmp.{nat_cmp_is}
+use Rattle.std.specs.List.{AllByRecursion}
+use Rattle.std.specs.List.Sorted.{IsStrictlySortedBy}
+use Rattle.std.specs.Option.{option_or}
+use Rattle.std.proofs.Common.{Equal, Less}
+use Rattle.std.specs.Ordering.{nat_cmp}
+use Rattle.std.proofs.lemmas.Bool.{cases_lt}
+use Rattle.std.proofs.lemmas.List.Concat.{flat_map-append}
+use Rattle.std.proofs.lemmas.List.Sums.{sum_by-append, sum_by-cons}
+use Rattle.m88_base.specs.Found.{IsPart}
+use Rattle.m88_base.specs.Image.{IsImage, ProgramImage, byte_at, byte_count, most_bytes, parts}
+use Rattle.m88_base.specs.Lines.{text_of_lines}
+use Rattle.m88_base.specs.Placed.{AreApart, Placed, byte_among, byte_in, count_among}
+use Rattle.m88_base.proofs.Cuts.{run_is_part}
+use Rattle.m88_base.proofs.Laws.{byte_among-append, byte_in_above, byte_in_below}
+use Rattle.m88_parse.specs.declared.unit.Body.TheVariants as body
+use Rattle.m88_parse.specs.declared.unit.Statement.{Statement}
+use Rattle.m88_disasm.specs.Listing.{start_line}
+use Rattle.m88_disasm.specs.Read.{WritesImage, unlabelled}
+use Rattle.std.proofs.lemmas.List.{map-append}
+use Rattle.m88_disasm.proofs.Laws.{AreOnce, ArePieces, HasName, IsNew, IsWritten, Sets, Stated, a_set, accepted, bytes_are, names_in, names_of, no_set, pieces_of, said_start, spoken, start_is, stated_behind, unit_is, unit_of}
+use Rattle.m88_isa.specs.declared.instr.Instr.{Instr}
+use Rattle.m88_parse.specs.Language.Units.{IsUnit}
+use Rattle.m88_sourcing.specs.Flow.{branch_target}
+use Rattle.m88_sourcing.specs.Code.{InCode, IsCode, IsWordAt}
+use Rattle.m88_sourcing.specs.Labels.{HasLabel, IsTarget, label_of}
+use Rattle.m88_sourcing.specs.Source.{AreFar, AreSourceLines, IsSource, LineWhere, far_line}
+use Rattle.m88_sourcing.specs.Source.LineWhere.{so, not_so}
+use Rattle.m88_sourcing.specs.Source.AreSourceLines.{no_part, part}
+use Rattle.m88_sourcing.proofs.Cutting.{code_stands, no_byte_within, part_whole}
+use Rattle.m88_sourcing.proofs.Labelled.{said_far}
+use Rattle.m88_sourcing.proofs.Names.{IsNameable, NameOnly, are_low, mean_one, name_before, name_behind, named, once_both, one_name, only_more, other_bytes}
+use Rattle.m88_sourcing.proofs.Places.{HasAt, IsBranchTo, anywhere, no_branch}
+use Rattle.m88_sourcing.proofs.Runs.{Follow, ToldPart, ToldRuns, follow_order, runs_both, runs_none, told_pieces}
+use Rattle.m88_sourcing.proofs.Told.{Among, target_low}
+
+-- the parts
+-- one of the parts has a byte at an address
+abbrev pub InParts : List Placed → ℕ → Type 0
+InParts [] a = ⊥
+InParts (run ∷ runs) a = Among run.at (length run.bytes) a ⊎ InParts runs a
+
+in_above : (from a : ℕ) (runs : List Placed) → AreApart from runs → InParts runs a → from ≤ a
+in_above from a [] apart h = absurd h
+in_above from a (run ∷ runs) apart (inl h) = let x = h.0 in let y = apart.0 in omega (arith, x, y)
+in_above from a (run ∷ runs) apart (inr h) =
+    let x = in_above (run.at + length run.bytes + 1) a runs apart.2 h in let y = apart.0 in omega (arith, x, y)
+
+not_both : (from a : ℕ) (run : Placed) (runs : List Placed) → AreApart from (run ∷ runs)
+    → Among run.at (length run.bytes) a → InParts runs a → ⊥
+not_both from a run runs apart h k =
+    let x = h.1 in
+    let y = in_above (run.at + length run.bytes + 1) a runs apart.2 k in
+    absurd (omega (arith, x, y))
+
+follow_from : (low from to : ℕ) (runs : List Placed) → low ≤ from → Follow from runs to → Follow low runs to
+follow_from low from to [] h k = omega (arith, h, k)
+follow_from low from to (run ∷ runs) h k = (let l = k.0 in omega (arith, h, l), k.1)
+
+-- each part of an image is all that stands there
+abbrev pub EachPart : ProgramImage → List Placed → Type 0
+EachPart image runs = AllByRecursion (λ run. IsPart (byte_at image) run.at run.bytes) runs
+
+pub record ToldParts (image : ProgramImage) (entries : List ℕ) (number from : ℕ) (runs : List Placed)
+    (lines : List (List ℕ)) : Type 0 where
+  pub to : ℕ
+  pub told : ToldRuns image entries number from to lines (InParts runs) (InParts runs) (InParts runs image.start)
+  pub bytes_are : (a : ℕ) → byte_among told.runs a ≡ byte_among runs a
+  pub count : count_among told.runs ≡ count_among runs
+
+instruction_first : (image : ProgramImage) (entries : List ℕ) (run : Placed)
+    → IsPart (byte_at image) run.at run.bytes → 0 < length run.bytes → InCode image entries run.at → run.at % 4 ≡ 0
+instruction_first image entries run is some c = part_whole image run.at run.bytes is (code_stands image entries _ c)
+
+told_parts : (image : ProgramImage) (entries : List ℕ) (number from : ℕ) (runs : List Placed) (lines : List (List ℕ))
+    → AreApart from runs → ArePieces runs → count_among runs ≤ most_bytes → EachPart image runs
+    → AreSourceLines (λ _. []) image entries runs lines → ToldParts image entries number from runs lines
+told_parts image entries number from _ _ apart pieces few each no_part = record {
+  to = from;
+  told = runs_none image entries number from;
+  bytes_are = λ a. refl;
+  count = refl;
+}
+told_parts image entries number from _ _ apart pieces few each
+    (part {run = run} {runs = runs} {own = own} {lines = lines} are rest) =
+    let sum = sum_by-cons (λ (r : Placed). length r.bytes) run runs in
+    let end : ℕ = run.at + length run.bytes in
+    let p : ToldPart image entries number run.at end run.bytes own (Among run.at (length run.bytes))
+    (Among run.at (length run.bytes) image.start) =
+    told_pieces image entries number run.at run.bytes own pieces.2 (omega (arith, sum, few)) pieces.0 each.0.there
+    (instruction_first image entries run each.0) are in
+    let later : ℕ = number + length own in
+    let others : ToldParts image entries later (end + 1) runs lines =
+    told_parts image entries later (end + 1) runs lines apart.2 pieces.3 (omega (arith, sum, few)) each.1 rest in
+    record {
+      to = others.to;
+      told = runs_both image entries number later from end others.to own lines (Among run.at (length run.bytes))
+          (InParts runs) (Among run.at (length run.bytes)) (InParts runs) (Among run.at (length run.bytes) image.start) (InParts runs image.start) refl
+          (λ a. not_both from a run runs apart) (not_both from image.start run runs apart)
+          (record {
+            runs = p.told.runs;
+            statements = p.told.statements;
+            stated = p.told.stated;
+            datas = p.told.datas;
+            those = p.told.those;
+            branches = λ a w is i t stands e.
+                anywhere (IsBranchTo a i t) (named image entries) run.at from p.told.runs p.told.statements
+                (no_branch a i t) p.told.datas (p.told.branches a w is i t stands e);
+            pieces = p.told.pieces;
+            order = follow_from from run.at end p.told.runs apart.0 p.told.order;
+          })
+          (record {
+            runs = others.told.runs;
+            statements = others.told.statements;
+            stated = others.told.stated;
+            datas = others.told.datas;
+            those = others.told.those;
+            branches = λ a w is i t stands e.
+                anywhere (IsBranchTo a i t) (named image entries) (end + 1) end others.told.runs others.told.statements
+                (no_branch a i t) others.told.datas (others.told.branches a w is i t stands e);
+            pieces = others.told.pieces;
+            order = follow_from end (end + 1) others.to others.told.runs (omega arith) others.told.order;
+          });
+      bytes_are = λ a.
+          byte_among-append p.told.runs others.told.runs a
+          ∙ ap (λ (o : Option ℕ). option_or o (byte_among others.told.runs a)) (p.bytes_are a)
+          ∙ ap (λ (o : Option ℕ). option_or (byte_in run a) o) (others.bytes_are a);
+      count =
+          sum_by-append (λ (r : Placed). length r.bytes) p.told.runs others.told.runs
+          ∙ (let m = p.count in let n = others.count in omega (arith, sum, m, n));
+    }
+
+-- a byte is in a part
+in_part : (runs : List Placed) (a : ℕ) → IsSome (byte_among runs a) → InParts runs a
+in_part [] a some = absurd cc
+in_part (run ∷ runs) a some = elim (cases_lt a run.at) [
+  | inl low ↦
+      inr (in_part runs a (subst (λ (o : Option ℕ). IsSome (option_or o (byte_among runs a))) (byte_in_below run a low) some))
+  | inr from ↦ elim (cases_lt a (run.at + length run.bytes)) [
+    | inl low ↦ inl (from, low)
+    | inr high ↦
+        inr (in_part runs a
+        (subst (λ (o : Option ℕ). IsSome (option_or o (byte_among runs a))) (byte_in_above run a high) some))
+  ]
+]
+
+-- the names of values
+far_statements : ℕ → List ℕ → List Statement
+far_statements number [] = []
+far_statements number (t ∷ ts) = unlabelled number (body.Set (label_of t) 6 t) ∷ far_statements (number + 1) ts
+
+abbrev IsFar : ProgramImage → List ℕ → ℕ → Type 0
+IsFar image entries t = IsTarget image entries t × (byte_at image t ≡ None)
+
+far_stated : (image : ProgramImage) (entries : List ℕ) (number : ℕ) (ts : List ℕ)
+    → AllByRecursion (IsFar image entries) ts → Stated number (map far_line ts) (far_statements number ts)
+unfolding far_statements
+far_stated image entries number [] all = tt
+far_stated image entries number (t ∷ ts) all = (
+  spoken number (far_line t) (body.Set (label_of t) 6 t) (said_far number t (target_low image entries t all.0.0)),
+  far_stated image entries (number + 1) ts all.1,
+)
+
+far_sets : (image : ProgramImage) (entries : List ℕ) (number : ℕ) (ts : List ℕ)
+    → AllByRecursion (IsFar image entries) ts → Sets (named image entries) (far_statements number ts)
+unfolding far_statements
+far_sets image entries number [] all = no_set
+far_sets image entries number (t ∷ ts) all =
+    a_set number (label_of t) 6 t (target_low image entries t all.0.0, inr (refl, inr all.0))
+    (far_sets image entries (number + 1) ts all.1)
+
+far_names : (number : ℕ) (ts : List ℕ) → names_in (far_statements number ts) ≡ map label_of ts
+unfolding far_statements
+far_names number [] = refl
+far_names number (t ∷ ts) =
+    ap (λ (ns : List (List ℕ)). let ms : List (List ℕ) = label_of t ∷ ns in ms) (far_names (number + 1) ts)
+
+far_only : (image : ProgramImage) (entries : List ℕ) (S : Type 0) (ts : List ℕ)
+    → AllByRecursion (IsFar image entries) ts → NameOnly (λ a. byte_at image a ≡ None) S (map label_of ts)
+far_only image entries S [] all = tt
+far_only image entries S (t ∷ ts) all =
+    (inr (t, refl, target_low image entries t all.0.0, all.0.1), far_only image entries S ts all.1)
+
+-- each is none of some
+abbrev NoneOf : List ℕ → ℕ → Type 0
+NoneOf before t = AllByRecursion (λ b. t ≡ b → ⊥) before
+
+new_name : (before : List ℕ) (t : ℕ) → t < 2 ^ 32 → AllByRecursion (λ b. b < 2 ^ 32) before → NoneOf before t
+    → IsNew (label_of t) (map label_of before)
+new_name [] t low lows none = tt
+new_name (b ∷ before) t low lows none = (
+  other_bytes (label_of t) (label_of b) (λ e. none.0 (one_name t b low lows.0 e)),
+  new_name before t low lows.1 none.1,
+)
+
+all_and : {A : Type 0} (P : A → Type 0) (xs : List A) (x : A) → AllByRecursion P xs → P x → AllByRecursion P (xs ++ x ∷ [])
+all_and P [] x h k = (k, tt)
+all_and P (y ∷ xs) x h k = (h.0, all_and P xs x h.1 k)
+
+less_other : (x y : ℕ) → nat_cmp x y ≡ Less → y ≡ x → ⊥
+less_other x y less same =
+    let equal : Equal ≡ nat_cmp x x = nat_cmp_is x x Equal refl in
+    let e : Less ≡ Equal = sym less ∙ ap (nat_cmp x) same ∙ sym equal in
+    absurd cc
+
+none_more : (before : List ℕ) (x : ℕ) (ts : List ℕ) → AllByRecursion (NoneOf before) ts
+    → AllByRecursion (λ y. nat_cmp x y ≡ Less) ts → AllByRecursion (NoneOf (before ++ x ∷ [])) ts
+none_more before x [] none less = tt
+none_more before x (t ∷ ts) none less =
+    (all_and (λ b. t ≡ b → ⊥) before x none.0 (less_other x t less.0), none_more before x ts none.1 less.1)
+
+far_once : (before ts : List ℕ) → AllByRecursion (λ b. b < 2 ^ 32) before → AllByRecursion (λ b. b < 2 ^ 32) ts
+    → AllByRecursion (NoneOf before) ts → IsStrictlySortedBy nat_cmp ts → AreOnce (map label_of before) (map label_of ts)
+unfolding IsStrictlySortedBy
+far_once before [] lows low none sorted = tt
+far_once before (t ∷ ts) lows low none sorted = (
+  new_name before t low.0 lows none.0,
+  subst (λ (ns : List (List ℕ)). AreOnce ns (map label_of ts)) (map-append label_of before (t ∷ []))
+      (far_once (before ++ t ∷ []) ts (all_and (λ b. b < 2 ^ 32) before t lows low.0) low.1
+      (none_more before t ts none.1 sorted.0) sorted.1),
+)
+
+-- what is in the list of far targets, one by one
+all_by : (P : ℕ → Type 0) (xs : List ℕ) → ((t : ℕ) → Contains xs t → P t) → AllByRecursion P xs
+all_by P [] h = tt
+all_by P (x ∷ xs) h = (
+  h x (0, omega arith, refl),
+  all_by P xs (λ t c. h t (suc c.0, (let e = c.1 in omega (arith, e)), c.2)),
+)
+
+name_contained : (xs : List ℕ) (t : ℕ) → Contains xs t → HasName (label_of t) (map label_of xs)
+name_contained [] t (k, low, is) = absurd (omega (arith, low))
+name_contained (x ∷ xs) t (zero, low, is) = inl (ap label_of is)
+name_contained (x ∷ xs) t (suc k, low, is) = inr (name_contained xs t (k, omega (arith, low), is))
+
+none_before : (ts : List ℕ) → AllByRecursion (NoneOf []) ts
+none_before [] = tt
+none_before (t ∷ ts) = (tt, none_before ts)
+
+-- the statements in front of the parts
+record Front (image : ProgramImage) (entries far : List ℕ) (lines : List (List ℕ)) : Type 0 where
+  statements : List Statement
+  stated : Stated 1 lines statements
+  are_sets : Sets (named image entries) statements
+  only : NameOnly (λ a. byte_at image a ≡ None) (IsCode image entries image.start → ⊥) (names_in statements)
+  once : AreOnce [] (names_in statements)
+  far_named : (t : ℕ) → Contains far t → HasName (label_of t) (names_in statements)
+  start : HasName (codes "_start") (names_in statements) ⊎ ((IsCode image entries image.start → ⊥) → ⊥)
+
+start_only : (image : ProgramImage) (entries : List ℕ) → (IsCode image entries image.start → ⊥)
+    → NameOnly (λ a. ⊥) (IsCode image entries image.start → ⊥) (codes "_start" ∷ [])
+start_only image entries none = (inl (refl, none), tt)
+
+front : (image : ProgramImage) (entries far : List ℕ) (start : List (List ℕ)) → image.start < 2 ^ 32
+    → LineWhere (¬ IsCode image entries image.start) (start_line image.start) start → AreFar image entries far
+    → Front image entries far (start ++ map far_line far)
+front image entries far start low is_start are = by start is_start
+  where
+    each : AllByRecursion (IsFar image entries) far
+    each = all_by (IsFar image entries) far (λ t c. (are.exactly t).0 c)
+
+    lows : AllByRecursion (λ t. t < 2 ^ 32) far
+    lows = all_by (λ t. t < 2 ^ 32) far (λ t c. target_low image entries t ((are.exactly t).0 c).0)
+
+    once : AreOnce [] (map label_of far)
+    once = far_once [] far tt lows (none_before far) are.ascending
+
+    by : (lines : List (List ℕ)) → LineWhere (¬ IsCode image entries image.start) (start_line image.start) lines
+        → Front image entries far (lines ++ map far_line far)
+    by _ (so none) =
+        let names : names_in (far_statements 2 far) ≡ map label_of far = far_names 2 far in
+        record {
+          statements = unlabelled 1 (body.Set (codes "_start") 6 image.start) ∷ far_statements 2 far;
+          stated = (
+            spoken 1 (start_line image.start) (body.Set (codes "_start") 6 image.start) (said_start 1 image.start low),
+            far_stated image entries 2 far each,
+          );
+          are_sets = a_set 1 (codes "_start") 6 image.start (low, inl (refl, refl)) (far_sets image entries 2 far each);
+          only =
+              (inl (refl, none), subst (NameOnly _ _) (sym names) (far_only image entries _ far each));
+          once =
+              subst (λ (ns : List (List ℕ)). AreOnce [] (codes "_start" ∷ ns)) (sym names)
+              (once_both (λ a. ⊥) (λ a. byte_at image a ≡ None) (IsCode image entries image.start → ⊥) ⊥
+              (codes "_start" ∷ []) (map label_of far) (λ a h k. h) (λ s h. h) (start_only image entries none)
+              (far_only image entries ⊥ far each) (tt, tt) once);
+          far_named = λ t c.
+              inr (subst (HasName (label_of t)) (sym names) (name_contained far t c));
+          start = inl (inl refl);
+        }
+    by _ (not_so double) =
+        let names : names_in (far_statements 1 far) ≡ map label_of far = far_names 1 far in
+        record {
+          statements = far_statements 1 far;
+          stated = far_stated image entries 1 far each;
+          are_sets = far_sets image entries 1 far each;
+          only = subst (NameOnly _ _) (sym names) (far_only image entries _ far each);
+          once = subst (AreOnce []) (sym names) once;
+          far_named = λ t c. subst (HasName (label_of t)) (sym names) (name_contained far t c);
+          start = inr double;
+        }
+
+-- what a source is made of
+pub record IsMade (image : ProgramImage) (entries text : List ℕ) : Type 0 where
+  pub runs : List Placed
+  pub sets : List Statement
+  pub statements : List Statement
+  pub written : IsWritten (named image entries) image.start runs sets statements
+  pub is_unit : IsUnit text (unit_of (sets ++ statements))
+  pub same : (a : ℕ) → byte_among runs a ≡ byte_at image a
+  pub branches : (a : ℕ) → IsCode image entries a → (i : Instr) (t : ℕ) → IsWordAt image a i → branch_target a i ≡ Some t
+      → HasAt (IsBranchTo a i t) 0 statements
+
+sets_behind : (image : ProgramImage) (entries : List ℕ) (xs ys : List Statement) → Sets (named image entries) xs
+    → Sets (named image entries) ys → Sets (named image entries) (xs ++ ys)
+sets_behind image entries _ ys no_set k = k
+sets_behind image entries _ ys (a_set {xs = xs} n name col value is others) k =
+    a_set n name col value is (sets_behind image entries xs ys others k)
+
+each_part : (image : ProgramImage) → IsImage image → (from : List Placed) (runs : List Placed)
+    → parts image ≡ from ++ runs → EachPart image runs
+unfolding byte_at
+each_part image is from [] all = tt
+each_part image is from (run ∷ runs) all =
+    let size = length-append from (run ∷ runs) in
+    let whole = ap length all in
+    let here : run ≡ get_or (parts image) (length from) run =
+    sym (get_behind from) ∙ ap (λ (xs : List Placed). get_or xs (length from) run) (sym all) in (
+      run_is_part (parts image) (length from) run is.apart (omega (arith, size, whole)) here,
+      each_part image is (from ++ run ∷ []) runs (all ∙ sym (append_assoc from (run ∷ []) runs)),
+    )
+  where
+    get_behind : (xs : List Placed) → get_or (xs ++ run ∷ runs) (length xs) run ≡ run
+    get_behind [] = refl
+    get_behind (x ∷ xs) = get_behind xs
+
+pub source_made : (image : ProgramImage) (entries text : List ℕ) → IsImage image → IsSource image entries text
+    → IsMade image entries text
+unfolding byte_at byte_count
+source_made image entries text is s =
+    let runs : List Placed = parts image in
+    let pieces : ArePieces runs = pieces_of 0 runs is.apart is.bytes in
+    let f : Front image entries s.far (s.start ++ map far_line s.far) =
+    front image entries s.far s.start is.start s.starts s.are_far in
+    let later : ℕ = 1 + length (s.start ++ map far_line s.far) in
+    let t : ToldParts image entries later 0 runs s.lines =
+    told_parts image entries later 0 runs s.lines is.apart pieces is.few (each_part image is [] runs refl) s.are_lines in
+    let names : names_in (f.statements ++ t.told.statements) ≡ names_in f.statements ++ names_in t.told.statements =
+    flat_map-append names_of f.statements t.told.statements in
+    let first : List (List ℕ) = names_in f.statements in
+    let last : List (List ℕ) = names_in t.told.statements in
+    let start : HasName (codes "_start") (first ++ last) = start_defined first last f.start t.told.those.start in
+    record {
+      runs = t.told.runs;
+      sets = f.statements;
+      statements = t.told.statements;
+      written = record {
+        are_sets = f.are_sets;
+        datas = t.told.datas;
+        low = are_low image entries;
+        one = mean_one image entries;
+        once =
+            subst (AreOnce []) (sym names)
+            (once_both (λ a. byte_at image a ≡ None) (λ a. IsSome (byte_at image a)) (IsCode image entries image.start → ⊥)
+            (IsCode image entries image.start) first last (λ a h k. some_not (byte_at image a) k h) (λ h k. h k) f.only
+            (only_more _ _ _ _ last (λ a h. h.1) (λ h. h.1) t.told.those.only) f.once t.told.those.once);
+        defined = λ name a h. subst (HasName name) (sym names) (defined first last name a h.1 start t.told.those.labels f.far_named);
+        starts = (is.start, inl (refl, refl));
+        pieces = t.told.pieces;
+        order = follow_order 0 t.to t.told.runs t.told.order;
+        few = let c = t.count in let e = is.few in omega (arith, c, e);
+      };
+      is_unit =
+          unit_is ((s.start ++ map far_line s.far) ++ s.lines) (f.statements ++ t.told.statements) text
+          (s.text_is ∙ ap text_of_lines (sym (append_assoc s.start (map far_line s.far) s.lines)))
+          (stated_behind 1 later (s.start ++ map far_line s.far) s.lines f.statements t.told.statements refl f.stated
+          t.told.stated);
+      same = t.bytes_are;
+      branches = λ a code.
+          t.told.branches a (in_part runs a (code_some (byte_at image a) a refl code)) code;
+    }
+  where
+    some_not : (o : Option ℕ) → IsSome o → o ≡ None → ⊥
+    some_not (Some b) some e = absurd cc
+    some_not None some e = absurd cc
+
+    code_some : (o : Option ℕ) (a : ℕ) → byte_at image a ≡ o → IsCode image entries a → IsSome (byte_at image a)
+    code_some (Some b) a e code = subst IsSome (sym e) refl
+    code_some None a e code =
+        absurd (no_byte_within image a 0 (code_stands image entries a code) (omega arith)
+        (ap (byte_at image) (let f : a + 0 ≡ a = omega arith in f) ∙ e))
+
+    start_defined : (first last : List (List ℕ))
+        → HasName (codes "_start") first ⊎ ((IsCode image entries image.start → ⊥) → ⊥)
+        → (InParts (parts image) image.start → HasName (codes "_start") last ⊎ (IsCode image entries image.start → ⊥))
+        → HasName (codes "_start") (first ++ last)
+    start_defined first last (inl has) within = name_before (codes "_start") first last has
+    start_defined first last (inr double) within =
+        elim (has_byte (byte_at image image.start) refl) [
+          | inl some ↦ elim (within (in_part (parts image) image.start some)) [
+            | inl has ↦ name_behind (codes "_start") first last has
+            | inr none ↦ absurd (double none)
+          ]
+          | inr none ↦ absurd (double (λ code. no_code none code))
+        ]
+      where
+        has_byte : (o : Option ℕ) → byte_at image image.start ≡ o
+            → IsSome (byte_at image image.start) ⊎ (byte_at image image.start ≡ None)
+        has_byte (Some b) e = inl (subst IsSome (sym e) refl)
+        has_byte None e = inr e
+
+        no_code : byte_at image image.start ≡ None → IsCode image entries image.start → ⊥
+        no_code none code =
+            no_byte_within image image.start 0 (code_stands image entries image.start code) (omega arith)
+            (ap (byte_at image) (let e : image.start + 0 ≡ image.start = omega arith in e) ∙ none)
+
+    defined : (first last : List (List ℕ)) (name : List ℕ) (a : ℕ)
+        → ((name ≡ codes "_start") × (a ≡ image.start)) ⊎ ((name ≡ label_of a) × IsNameable image entries a)
+        → HasName (codes "_start") (first ++ last)
+        → ((b : ℕ) → InParts (parts image) b → HasLabel image entries b → HasName (label_of b) last)
+        → ((b : ℕ) → Contains s.far b → HasName (label_of b) first) → HasName name (first ++ last)
+    defined first last name a (inl x) start labels far =
+        subst (λ (n : List ℕ). HasName n (first ++ last)) (sym x.0) start
+    defined first last name a (inr (e, inl label)) start labels far =
+        subst (λ (n : List ℕ). HasName n (first ++ last)) (sym e)
+        (name_behind (label_of a) first last (labels a (in_part (parts image) a label.0) label))
+    defined first last name a (inr (e, inr is_far)) start labels far =
+        subst (λ (n : List ℕ). HasName n (first ++ last)) (sym e)
+        (name_before (label_of a) first last (far a ((s.are_far.exactly a).1 is_far)))
+
+-- so `build` of it makes the image
+pub source_again : (image : ProgramImage) (entries text : List ℕ) → IsImage image → IsSource image entries text
+    → WritesImage text image
+source_again image entries text is s =
+    let m : IsMade image entries text = source_made image entries text is s in
+    record {
+      unit = unit_of (m.sets ++ m.statements);
+      is_unit = m.is_unit;
+      accepted = accepted (named image entries) image.start m.runs m.sets m.statements m.written;
+      bytes = λ a. bytes_are (named image entries) image.start m.runs m.sets m.statements a m.written ∙ m.same a;
+      start = start_is (named image entries) image.start m.runs m.sets m.statements m.written;
+    }

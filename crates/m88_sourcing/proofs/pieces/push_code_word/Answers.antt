@@ -1,0 +1,16 @@
+-- The label, the mark of the start and the text of the word.
+use Rattle.std.proofs.Common.{sym, ◌∙◌}
+use Rattle.std.proofs.lemmas.Result.{on_ok_weaker}
+use Rattle.m88_sourcing.proofs.Cutting.{lines_where, word_front}
+use Rattle.m88_sourcing.proofs.pieces.push_code_word.Goals as goal
+
+pub returns : goal.returns
+returns c =
+    on_ok_weaker c.push_instruction.result
+    (λ text entries n is.
+    word_front c.args.image.now entries c.args.at n c.in-Some.instr c.args.text.now.items c.push_label_at.new.text.items
+    c.push_start_at.new.text.items c.push_instruction.new.text.items c.in-Some.ensures.some
+    (lines_where _ _ _ _ _ (is.labels c.args.at) c.in_ok-push_label_at.ensures)
+    (lines_where _ _ _ _ _ (λ e. e ∙ c.start.ensures, λ e. e ∙ sym c.start.ensures) c.in_ok-push_start_at.ensures)
+    text)
+    c.push_instruction.ensures

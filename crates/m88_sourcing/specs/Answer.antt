@@ -1,0 +1,23 @@
+-- What is written for an input: the source of its image, or the line that refuses it.
+use Rattle.std.specs.Prelude.{◌≡◌, ◌⊎◌, ℕ, List}
+use Rattle.m88_base.specs.Image.{ProgramImage}
+use Rattle.m88_base.specs.Refusal.{Refusal, refusal_line}
+use Rattle.m88_sourcing.specs.Inputs.{IsImageIn, IsRefusedIn}
+use Rattle.m88_sourcing.specs.Request.{Request}
+use Rattle.m88_sourcing.specs.Source.{IsSource}
+
+-- the text is the source of the image that the input is
+pub record SourcesAccepted (request : Request) (input text : List ℕ) : Type 0 where
+  pub image : ProgramImage
+  pub is_image : IsImageIn request.at input image
+  pub is_source : IsSource image request.entries text
+
+-- the text is the line that refuses the input
+pub record SourcesRefused (request : Request) (input text : List ℕ) : Type 0 where
+  pub refusal : Refusal
+  pub refused : IsRefusedIn request.at input refusal
+  pub is_text : text ≡ refusal_line refusal
+
+-- the text answers the input, which is accepted or refused
+abbrev pub Sources : Request → List ℕ → List ℕ → Type 0
+Sources request input text = SourcesAccepted request input text ⊎ SourcesRefused request input text

@@ -1,0 +1,44 @@
+-- Where an instruction leads, without a look at registers ("Instruction Set": flow-control instructions).
+use Rattle.std.specs.Prelude.{ℕ, Bool, true, false, not, ◌==◌, ◌&&◌, Option, Some, None, if◌then◌else◌}
+use Rattle.m88_base.specs.Reg.{number_of}
+use Rattle.m88_isa.specs.Address.{after_bytes}
+use Rattle.m88_isa.specs.Flow.{words_away}
+use Rattle.m88_isa.specs.Monitor.{exit_service, monitor_trap, service_register}
+use Rattle.m88_isa.specs.declared.instr.ImmOp.TheVariants.{Or}
+use Rattle.m88_isa.specs.declared.instr.Instr.{Instr}
+use Rattle.m88_isa.specs.declared.instr.Instr.TheVariants as instr
+
+-- where the program goes on behind an instruction, or comes back to: behind a call and its slot; nowhere behind a branch
+-- or jump that is always taken, or behind a return from an exception
+abbrev pub next_of : ℕ → Instr → Option ℕ
+next_of pc (instr.Branch false delayed words) = None
+next_of pc (instr.Branch true delayed words) = Some (after_bytes pc (if delayed then 8 else 4))
+next_of pc (instr.Jump false delayed s2) = None
+next_of pc (instr.Jump true delayed s2) = Some (after_bytes pc (if delayed then 8 else 4))
+next_of pc instr.Rte = None
+next_of pc i = Some (after_bytes pc 4)
+
+-- the target of a branch, which its word names
+abbrev pub branch_target : ℕ → Instr → Option ℕ
+branch_target pc (instr.Branch link delayed words) = Some (words_away pc words)
+branch_target pc (instr.BranchBit set delayed bit s1 words) = Some (words_away pc words)
+branch_target pc (instr.BranchCond delayed mask s1 words) = Some (words_away pc words)
+branch_target pc i = None
+
+-- the delay slot of a branch or jump
+abbrev pub slot : ℕ → Instr → Option ℕ
+slot pc (instr.Branch link true words) = Some (after_bytes pc 4)
+slot pc (instr.BranchBit set true bit s1 words) = Some (after_bytes pc 4)
+slot pc (instr.BranchCond true mask s1 words) = Some (after_bytes pc 4)
+slot pc (instr.Jump link true s2) = Some (after_bytes pc 4)
+slot pc i = None
+
+-- a trap to the monitor that is always taken
+abbrev pub calls_monitor : Instr → Bool
+calls_monitor (instr.TrapBit set bit s1 vector) = not set && (number_of s1 == 0 && vector == monitor_trap)
+calls_monitor i = false
+
+-- the number of the service that ends the program is put where the monitor looks for it
+abbrev pub asks_for_end : Instr → Bool
+asks_for_end (instr.Imm Or d s1 imm) = number_of d == service_register && (number_of s1 == 0 && imm == exit_service)
+asks_for_end i = false

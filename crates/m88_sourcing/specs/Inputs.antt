@@ -1,0 +1,52 @@
+-- The image that an input is, as S-records or as a binary, and why one is refused.
+use Rattle.std.specs.Prelude.{◌≡◌, ℕ, ◌+◌, ◌<◌, ◌^◌, List, Option, Some, None, codes, length}
+use Rattle.m88_base.specs.Image.{IsImage, ProgramImage, byte_at}
+use Rattle.m88_base.specs.Placed.{byte_in}
+use Rattle.m88_base.specs.Refusal.{Refusal}
+use Rattle.m88_srec.specs.Accepted.{IsAccepted, Whole, whole_of}
+use Rattle.m88_srec.specs.Reasons.{srec_reason}
+use Rattle.m88_srec.specs.Verdict.{IsFirstSrecFault}
+use Rattle.m88_srec.specs.declared.fault.SrecFault.{SrecFault}
+
+-- the image has the bytes from an address on, and starts there
+pub record IsBinaryAt (at : ℕ) (bytes : List ℕ) (image : ProgramImage) : Type 0 where
+  pub found : (a : ℕ) → byte_at image a ≡ byte_in (record { at = at; bytes = bytes }) a
+  pub start : image.start ≡ at
+
+-- one of the bytes would lie past the last address
+abbrev pub ReachesPast : ℕ → List ℕ → Type 0
+ReachesPast at bytes = 2 ^ 32 < at + length bytes
+
+-- the refusal for a fault of S-records, told at column 1 of its line
+abbrev pub records_refusal : SrecFault → Refusal
+records_refusal fault = record { line = fault.line; column = 1; reason = srec_reason fault.kind }
+
+-- S-records are refused at their first fault
+pub record AreRefusedRecords (text : List ℕ) (r : Refusal) : Type 0 where
+  pub fault : SrecFault
+  pub is_first : IsFirstSrecFault text fault
+  pub refusal : r ≡ records_refusal fault
+
+-- the refusal of a binary
+abbrev pub binary_refusal : Refusal
+binary_refusal = record { line = 1; column = 1; reason = codes "too large" }
+
+-- an input says the bytes and the start of an image, read as S-records, or as a binary from an address on
+abbrev pub SaysImage : Option ℕ → List ℕ → ProgramImage → Type 0
+SaysImage None input image = IsAccepted input (whole_of image)
+SaysImage (Some at) input image = IsBinaryAt at input image
+
+-- the image that an input is
+abbrev pub IsImageIn : Option ℕ → List ℕ → ProgramImage → Type 0
+IsImageIn at input image = IsImage image × SaysImage at input image
+
+-- how it is refused
+abbrev pub IsRefusedIn : Option ℕ → List ℕ → Refusal → Type 0
+IsRefusedIn None input r = AreRefusedRecords input r
+IsRefusedIn (Some at) input r = ReachesPast at input × (r ≡ binary_refusal)
+
+-- an input is accepted: S-records that write some bytes and a start, or a binary none of whose bytes would lie past the
+-- last address
+abbrev pub IsAcceptedIn : Option ℕ → List ℕ → Type 0
+IsAcceptedIn None input = (whole : Whole) × IsAccepted input whole
+IsAcceptedIn (Some at) input = ¬ ReachesPast at input

@@ -1,0 +1,50 @@
+-- The names of addresses, and the texts of words that are code: a branch names its target.
+use Rattle.std.specs.Prelude.{◌≡◌, ◌⊎◌, ℕ, ◌++◌, List, [], ◌∷◌, Option, Some, None, Contains, IsSome, codes, decimal, map}
+use Rattle.m88_base.specs.Hex.{hex8}
+use Rattle.m88_base.specs.Image.{ProgramImage, byte_at}
+use Rattle.m88_isa.specs.Address.{word_address}
+use Rattle.m88_isa.specs.declared.instr.Instr.{Instr}
+use Rattle.m88_isa.specs.declared.instr.Instr.TheVariants as instr
+use Rattle.m88_isa.specs.Names.{branch_bit_name, branch_cond_name, branch_name}
+use Rattle.m88_disasm.specs.Text.{condition, instr_text, register_name, spelled}
+use Rattle.m88_sourcing.specs.Code.{IsCode, IsWordAt}
+use Rattle.m88_sourcing.specs.Flow.{branch_target}
+
+-- the name of an address: L and its eight digits
+abbrev pub label_of : ℕ → List ℕ
+label_of a = codes "L" ++ hex8 a
+
+-- the line of a label alone
+abbrev pub label_line : List ℕ → List ℕ
+label_line name = name ++ codes ":"
+
+-- the instruction at an address branches to another
+abbrev pub BranchesTo : ProgramImage → ℕ → ℕ → Type 0
+BranchesTo image a t = (i : Instr) × IsWordAt image a i × (branch_target a i ≡ Some t)
+
+-- a word that is code branches to an address
+abbrev pub IsTarget : ProgramImage → List ℕ → ℕ → Type 0
+IsTarget image entries t = (from : ℕ) × IsCode image entries from × BranchesTo image from t
+
+-- an address has a label: a byte is there, and a branch leads to it, or code was said to begin there
+abbrev pub HasLabel : ProgramImage → List ℕ → ℕ → Type 0
+HasLabel image entries a =
+    IsSome (byte_at image a) × (IsTarget image entries a ⊎ Contains (map word_address entries) a)
+
+-- the text of a branch that names its target
+abbrev pub named_text : Instr → List ℕ → List ℕ
+named_text (instr.Branch link delayed words) name = spelled (branch_name link delayed) (name ∷ [])
+named_text (instr.BranchBit set delayed bit s1 words) name =
+    spelled (branch_bit_name set delayed) (decimal bit ∷ register_name s1 ∷ name ∷ [])
+named_text (instr.BranchCond delayed mask s1 words) name =
+    spelled (branch_cond_name delayed) (condition mask ∷ register_name s1 ∷ name ∷ [])
+named_text i name = instr_text i
+
+-- the text of an instruction with such a target, or without one
+abbrev pub text_to : Instr → Option ℕ → List ℕ
+text_to i (Some t) = named_text i (label_of t)
+text_to i None = instr_text i
+
+-- the text of a word that is code
+abbrev pub code_text : ℕ → Instr → List ℕ
+code_text a i = text_to i (branch_target a i)

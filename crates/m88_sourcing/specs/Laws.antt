@@ -1,0 +1,20 @@
+-- What holds of every source of an image.
+use Rattle.std.specs.Prelude.{ℕ, List}
+use Rattle.m88_base.specs.Image.{IsImage, ProgramImage}
+use Rattle.m88_parse.specs.Language.Units.{IsUnit}
+use Rattle.m88_parse.specs.declared.unit.Unit.{Unit as Source}
+use Rattle.m88_disasm.specs.Read.{WritesImage}
+use Rattle.m88_sourcing.specs.Source.{IsSource}
+use Rattle.m88_sourcing.specs.Targets.{NamesItsTargets}
+
+-- read, assembled and linked it is the image with its start
+abbrev pub EachBuildsBack : Type 0
+EachBuildsBack =
+    (image : ProgramImage) (entries text : List ℕ) → IsImage image → IsSource image entries text
+    → WritesImage text image
+
+-- every branch of it names its target
+abbrev pub EachNamesItsTargets : Type 0
+EachNamesItsTargets =
+    (image : ProgramImage) (entries text : List ℕ) (unit : Source) → IsImage image → IsSource image entries text
+    → IsUnit text unit → NamesItsTargets image entries unit

@@ -1,0 +1,89 @@
+//! Where an instruction leads, without a look at registers.
+ghost use Rattle.std.specs.Prelude.{◌≡◌};
+ghost use Rattle.m88_isa.specs.Flow.{words_away};
+ghost use Rattle.m88_sourcing.specs.Flow.{asks_for_end, next_of, calls_monitor, slot, branch_target};
+
+use m88_isa::{ImmOp, Instr};
+
+/// The vector of the monitor's trap.
+const MONITOR_TRAP: u16 = 496;
+
+/// The register that has the number of a service, and the number of the service that ends the program.
+const SERVICE_REGISTER: u32 = 9;
+
+const EXIT_SERVICE: u16 = 0x63;
+
+/// The address a signed count of words away.
+fn words_away(pc: u32, words: i32) -> u32
+    ensures { result ≡ words_away pc words }
+{
+    pc.wrapping_add(words.cast_unsigned().wrapping_mul(4))
+}
+
+/// Where the program goes on behind an instruction, or comes back to.
+pub(crate) fn next_of(pc: u32, instr: &Instr) -> Option<u32>
+    ensures { result ≡ next_of pc instr.now }
+{
+    match *instr {
+        Instr::Branch { link: false, .. } | Instr::Jump { link: false, .. } | Instr::Rte => None,
+        Instr::Branch { delayed, .. } | Instr::Jump { delayed, .. } => {
+            Some(pc.wrapping_add(if delayed { 8 } else { 4 }))
+        }
+        _ => Some(pc.wrapping_add(4)),
+    }
+}
+
+/// The target of a branch.
+pub(crate) fn branch_target(pc: u32, instr: &Instr) -> Option<u32>
+    ensures { result ≡ branch_target pc instr.now }
+{
+    match *instr {
+        Instr::Branch { words, .. } => Some(words_away(pc, words)),
+        Instr::BranchBit { words, .. } => Some(words_away(pc, i32::from(words))),
+        Instr::BranchCond { words, .. } => Some(words_away(pc, i32::from(words))),
+        _ => None,
+    }
+}
+
+/// The delay slot of a branch or jump.
+pub(crate) fn slot(pc: u32, instr: &Instr) -> Option<u32>
+    ensures { result ≡ slot pc instr.now }
+{
+    match *instr {
+        Instr::Branch { delayed: true, .. }
+        | Instr::BranchBit { delayed: true, .. }
+        | Instr::BranchCond { delayed: true, .. }
+        | Instr::Jump { delayed: true, .. } => Some(pc.wrapping_add(4)),
+        _ => None,
+    }
+}
+
+/// Whether it is a trap to the monitor that is always taken.
+pub(crate) fn calls_monitor(instr: &Instr) -> bool
+    ensures { result ≡ calls_monitor instr.now }
+{
+    match *instr {
+        Instr::TrapBit {
+            set,
+            s1,
+            vector,
+            ..
+        } => !set && (s1.number() == 0 && vector == MONITOR_TRAP),
+        _ => false,
+    }
+}
+
+/// Whether it puts the number of the service that ends the program where the monitor looks for it.
+pub(crate) fn asks_for_end(instr: &Instr) -> bool
+    ensures { result ≡ asks_for_end instr.now }
+{
+    match *instr {
+        Instr::Imm {
+            op: ImmOp::Or,
+            d,
+            s1,
+            imm,
+        } => d.number() == SERVICE_REGISTER && (s1.number() == 0 && imm == EXIT_SERVICE),
+        _ => false,
+    }
+}

@@ -1,0 +1,154 @@
+//! The top call.
+ghost use Rattle.std.specs.Prelude.{[], ◌≡◌, ◌≢◌, ◌↔◌, ◌+◌, ℕ, IfErr, IfOk, List, Option, Some, length};
+ghost use Rattle.std.specs.Io.KnownBytes.{Appends};
+ghost use Rattle.m88_base.specs.Calls.{CallsWithin};
+ghost use Rattle.m88_base.specs.Causes.{Rose};
+ghost use Rattle.m88_base.specs.OneVerdict.{HasOneFaultUnless};
+ghost use Rattle.m88_base.specs.Outside.{AppendsPart, GivesAll, IsWhole, TakesAtMost, TakesExactly};
+ghost use Rattle.m88_base.specs.Reading.{ReadsSource, most_input};
+ghost use Rattle.m88_base.specs.Refusal.{Refusal, refusal_line};
+ghost use Rattle.m88_base.specs.Status.{Answers, IsAnswered, IsOfReading, WritesNothing};
+ghost use Rattle.m88_sourcing.specs.Answer.{Sources, SourcesAccepted, SourcesRefused};
+ghost use Rattle.m88_sourcing.specs.Calls.{IsLeft, IsSourced};
+ghost use Rattle.m88_sourcing.specs.Inputs.{IsAcceptedIn, IsRefusedIn};
+ghost use Rattle.m88_sourcing.specs.Inside.Asked.{asked};
+ghost use Rattle.m88_sourcing.specs.Inside.Replies.{IsInputRead, SourcesAs};
+ghost use Rattle.m88_sourcing.specs.Laws.{EachBuildsBack, EachNamesItsTargets};
+ghost use Rattle.m88_sourcing.specs.Request.{Asks, Request as Asked, words_of_call};
+
+use crate::input::read_input;
+use crate::request::{Request, asked_for};
+use crate::source::source_text;
+use m88_base::{Image, NoMemory, Refusal, Reply, Sink, Source, Status};
+use std::alloc::Global;
+
+/// The whole program between its words, a source and a sink. The words are `[ENTRY..]` where the source gives S-records,
+/// and `at ADDRESS [ENTRY..]` where it gives the bytes of a binary that stand from ADDRESS on and start there; each ENTRY,
+/// 64 at most, is an address at which code begins besides the start. Addresses are numbers of the assembly language. The
+/// source is read to its end, and the sink is given the source of its image, or the line that refuses it.
+pub fn m88source<S: Source, K: Sink>(
+    alloc: Global,
+    words: &[String],
+    source: &mut S,
+    sink: &mut K,
+) -> Status
+    // Words that ask for nothing, exactly. Then nothing is read.
+    ensures usage { (result ≡ Status.Usage) ↔ ((request : Asked) → ¬ Asks (words_of_call words.now) request) }
+    ensures unread { ((request : Asked) → ¬ Asks (words_of_call words.now) request)
+        → source.new ≡ source.old }
+
+    // The calls that are made of a source that tells them: at most two more than it may have bytes.
+    ensures reads { CallsWithin (most_input + 2) (S.calls source.old) (S.calls source.new) }
+
+    // The source failed, or it has a byte too many.
+    ensures source_fault { result ≡ Status.SourceFault
+        → Rose (S.faults source.old) (S.faults source.new) }
+    ensures too_long { result ≡ Status.TooLong
+        → TakesExactly (S.left source.old) (S.left source.new) (most_input + 1) }
+    ensures not_too_long { result ≢ Status.TooLong
+        → TakesAtMost (S.left source.old) (S.left source.new) most_input }
+
+    // The input is accepted, was read to its end, and the sink was given its source, by no more calls than that
+    // has bytes.
+    ensures done { result ≡ Status.Done
+        → IsSourced (words_of_call words.now) (S.left source.old) (S.left source.new) SourcesAccepted
+        (λ text. Appends (K.held sink.old) (K.held sink.new) text
+        × CallsWithin (length text) (K.calls sink.old) (K.calls sink.new)) }
+
+    // The input is not accepted, and the sink was given the line that says so in the same way; an input whose
+    // refusal stands whole in the sink was refused.
+    ensures refused { result ≡ Status.Refused
+        → IsSourced (words_of_call words.now) (S.left source.old) (S.left source.new) SourcesRefused
+        (λ text. Appends (K.held sink.old) (K.held sink.new) text
+        × CallsWithin (length text) (K.calls sink.old) (K.calls sink.new)) }
+    ensures refusal { (request : Asked) (bytes : List ℕ) (refusal : Refusal)
+        → Asks (words_of_call words.now) request → IsRefusedIn request.at bytes refusal
+        → S.left source.old ≡ Some bytes → S.left source.new ≡ Some []
+        → IsWhole (K.held sink.old) (K.held sink.new) (refusal_line refusal)
+        → result ≡ Status.Refused }
+
+    // The sink failed, and was given a front of the text that lacks at least one byte, by no more calls than the
+    // text has bytes.
+    ensures sink_fault { result ≡ Status.SinkFault
+        → Rose (K.faults sink.old) (K.faults sink.new) }
+    ensures part { result ≡ Status.SinkFault
+        → IsSourced (words_of_call words.now) (S.left source.old) (S.left source.new) Sources
+        (λ text. AppendsPart (K.held sink.old) (K.held sink.new) text
+        × CallsWithin (length text) (K.calls sink.old) (K.calls sink.new)) }
+
+    // With Done and Refused nothing failed: no failure of the source or of the sink is passed over.
+    ensures unfailed { IsAnswered result → (S.faults source.new ≡ S.faults source.old)
+        × (K.faults sink.new ≡ K.faults sink.old) }
+
+    // Where the words ask for something and nothing failed, an input that is not too long is answered: Done if
+    // it is accepted, Refused if it is not, or Memory.
+    ensures complete { (request : Asked) (bytes : List ℕ) → Asks (words_of_call words.now) request
+        → IsLeft (S.left source.old) bytes
+        → ¬ Rose (S.faults source.old) (S.faults source.new)
+        → ¬ Rose (K.faults sink.old) (K.faults sink.new)
+        → Answers (IsAcceptedIn request.at bytes) result }
+
+    // With every other answer nothing is written.
+    ensures unwritten { WritesNothing result → sink.new ≡ sink.old }
+
+    // Words ask for one thing. An input is accepted, or refused for one reason, never both; and it has one text.
+    ensures one_request { (a b : Asked) → Asks (words_of_call words.now) a → Asks (words_of_call words.now) b → a ≡ b }
+    ensures one_verdict { (at : Option ℕ) (bytes : List ℕ)
+        → HasOneFaultUnless (IsAcceptedIn at bytes) (IsRefusedIn at bytes) }
+    ensures one_text { (request : Asked) (bytes a b : List ℕ) → Sources request bytes a
+        → Sources request bytes b → a ≡ b }
+
+    // Of every source: `build` makes the image of it again, and every branch that is code names a label or a
+    // `.set` that stands for its target.
+    ensures builds { EachBuildsBack }
+    ensures names { EachNamesItsTargets }
+{
+    let Some(request) = asked_for(words) else {
+        return Status::Usage;
+    };
+    match reply_from(alloc, &request, source) {
+        Ok(reply) => reply.write_to(sink),
+        Err(status) => status,
+    }
+}
+
+/// The reply to what was read, or why there is none.
+fn reply_to(
+    alloc: Global,
+    request: &Request,
+    input: &Result<Image, Refusal>,
+) -> Result<Reply, NoMemory>
+    ensures { (bytes : List ℕ) → IsInputRead request.now.at bytes input.now
+        → IfOk result (SourcesAs (asked request.now) bytes) }
+{
+    match input {
+        Ok(image) => {
+            let text = source_text(alloc, image, request.entries.as_slice())?;
+            Ok(Reply {
+                accepted: true,
+                text,
+            })
+        }
+        Err(refusal) => {
+            let text = refusal.text(alloc)?;
+            Ok(Reply {
+                accepted: false,
+                text,
+            })
+        }
+    }
+}
+
+/// The reply to what a source gives, or why there is none.
+fn reply_from<S: Source>(alloc: Global, request: &Request, source: &mut S) -> Result<Reply, Status>
+    ensures ok { IfOk result (λ reply. (bytes : List ℕ)
+        × GivesAll (S.left source.old) (S.left source.new) bytes
+        × SourcesAs (asked request.now) bytes reply) }
+    ensures reading { ReadsSource Status.SourceFault Status.TooLong S.left S.calls S.faults
+        source.old source.new result }
+    ensures status { IfErr result IsOfReading }
+{
+    let input = read_input(alloc, request, source)?;
+    let reply = reply_to(alloc, request, &input)?;
+    Ok(reply)
+}
