@@ -26,6 +26,16 @@ _m88() {
 complete -o default -F _m88 m88 ./m88
 # m88list and m88serve take no words; bash completes the names of files behind <.
 complete -o default -W "" m88list ./m88list m88serve ./m88serve
+# m88source takes addresses, behind `at` that of a binary first.
+_m88_source() {
+  local choices=
+  case $COMP_CWORD:${COMP_WORDS[1]} in
+    1:*) choices=at ;;
+    2:at) choices=0x ;;
+  esac
+  COMPREPLY=($(compgen -W "$choices" -- "${COMP_WORDS[COMP_CWORD]}"))
+}
+complete -o default -F _m88_source m88source ./m88source
 # Of contrib/bench a source or records, then the words of its board; of contrib/session these words; of contrib/own the letters
 # of a shared run; of contrib/many a folder, then what its inputs are. contrib/ticks takes two numbers.
 _m88_beside() {
