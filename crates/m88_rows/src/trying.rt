@@ -9,6 +9,7 @@ use m88_board::Unwatched;
 use m88_cli::m88;
 use m88_listing::m88list;
 use m88_serving::m88serve;
+use m88_sourcing::m88source;
 use memchr::memmem;
 use std::alloc::Global;
 
@@ -185,6 +186,7 @@ fn answer(
         "m88" => Ok(m88(alloc, words, source, sink, &mut Unwatched::new())),
         "m88list" => Ok(m88list(alloc, words, source, sink)),
         "m88serve" => Ok(m88serve(alloc, words, source, sink)),
+        "m88source" => Ok(m88source(alloc, words, source, sink)),
         _ => bail!("there is no program {program}"),
     }
 }
