@@ -1,5 +1,5 @@
-//! The programs of the folder examples, without their comments, but for the two that share a board: each runs from its
-//! source, from its records and by way of its objects, with one report, and a line of it is held here.
+//! The programs of the folder examples, without their comments, but for the two that share a board and the ROM: each runs
+//! from its source, from its records and by way of its objects, with one report, and a line of it is held here.
 
 use crate::tests::told;
 use m88_cli::Status;
