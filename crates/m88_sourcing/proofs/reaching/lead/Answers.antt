@@ -14,7 +14,7 @@ returns-in_ok-visit_if-in-Some-2-clause-has c = λ b led.
       | inl h ↦
           c.in_ok-visit_if-in-Some-2.ensures.keeps b
           (c.in_ok-visit_if-in-Some.ensures.has b
-          (c.behind.ensures ∙ ap (λ (k : Instruction). behind c.args.at k) same ∙ h) led.4)
+          (c.next_of.ensures ∙ ap (λ (k : Instruction). next_of c.args.at k) same ∙ h) led.4)
       | inr h ↦
           c.in_ok-visit_if-in-Some-2.ensures.has b
           (c.branch_target.ensures ∙ ap (λ (k : Instruction). branch_target c.args.at k) same ∙ h) led.4
@@ -29,7 +29,7 @@ returns-in_ok-visit_if-in-Some-2-clause-only c = λ b member.
           elim (c.in_ok-visit_if-in-Some.ensures.only b before) [
             | inl old ↦ inl old
             | inr new ↦
-                inr (c.in-Some.instr, c.in-Some.ensures.some, goes_on, inl (sym c.behind.ensures ∙ new.0), new.1)
+                inr (c.in-Some.instr, c.in-Some.ensures.some, goes_on, inl (sym c.next_of.ensures ∙ new.0), new.1)
           ]
       | inr new ↦
           inr (c.in-Some.instr, c.in-Some.ensures.some, goes_on, inr (sym c.branch_target.ensures ∙ new.0), new.1)
