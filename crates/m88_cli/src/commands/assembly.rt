@@ -9,7 +9,7 @@ ghost use Rattle.m88_asm.specs.Inside.Held.{HoldsUnit};
 ghost use Rattle.m88_cli.specs.Inside.Reply.{Replies};
 
 use crate::commands::source_fault::{unassembled, unlinked, unread};
-use crate::reply::{Reply, refuse};
+use crate::reply::{Reply, accept, refuse};
 use m88_asm::{UnitFault, assemble, image_of};
 use m88_base::{Image, NoMemory, Refusal};
 use m88_link::{Object, object_text};
@@ -27,10 +27,7 @@ pub fn assemble_source(alloc: Global, source: &[u8]) -> Result<Reply, NoMemory>
         Err(refusal) => return refuse(alloc, &refusal),
     };
     let text = object_text(alloc, objects.as_slice())?;
-    Ok(Reply {
-        accepted: true,
-        text,
-    })
+    Ok(accept(text))
 }
 
 /// The reply of `build` to a source.
@@ -43,10 +40,7 @@ pub fn build_source(alloc: Global, source: &[u8]) -> Result<Reply, NoMemory>
         Err(refusal) => return refuse(alloc, &refusal),
     };
     let text = write_srec(alloc, &image)?;
-    Ok(Reply {
-        accepted: true,
-        text,
-    })
+    Ok(accept(text))
 }
 
 /// The objects of a source, or its refusal.

@@ -12,7 +12,7 @@ use crate::commands::Command;
 use crate::commands::assembly::image_of_source;
 use crate::commands::numbered::push_numbered_event;
 use crate::grammar::plain_settings;
-use crate::reply::{Reply, refuse};
+use crate::reply::{Reply, accept, refuse};
 use crate::settings::Settings;
 use m88_base::{NoMemory, push_decimal, push_hex8};
 use m88_emul::{EmulOutcome, Emulation};
@@ -49,10 +49,7 @@ pub fn emulate_source(alloc: Global, settings: &Settings, source: &[u8]) -> Resu
         &settings.schedule,
     )?;
     let text = emulated_text(alloc, &outcome)?;
-    Ok(Reply {
-        accepted: true,
-        text,
-    })
+    Ok(accept(text))
 }
 
 /// What is told of a run with emulation.

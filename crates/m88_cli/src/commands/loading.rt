@@ -4,7 +4,7 @@ ghost use Rattle.m88_cli.specs.Command.{dis};
 ghost use Rattle.m88_cli.specs.Inside.Inputs.{AreRecordsOf};
 ghost use Rattle.m88_cli.specs.Inside.Reply.{Replies};
 
-use crate::reply::{Reply, refuse};
+use crate::reply::{Reply, accept, refuse};
 use m88_base::{Image, NoMemory, Refusal};
 use m88_disasm::listing;
 use std::alloc::Global;
@@ -20,8 +20,5 @@ pub fn list_records(alloc: Global, records: &Result<Image, Refusal>) -> Result<R
     // What always holds of an image is told with its parts.
     prove!(image.part_count() <= image.len());
     let text = listing(alloc, image)?;
-    Ok(Reply {
-        accepted: true,
-        text,
-    })
+    Ok(accept(text))
 }

@@ -14,7 +14,7 @@ use crate::commands::assembly::image_of_source;
 use crate::commands::monitor::carry_out;
 use crate::grammar::opening;
 use crate::limits::SESSION_LIMIT;
-use crate::reply::{Reply, refuse};
+use crate::reply::{Reply, accept, refuse};
 use crate::script::{MonitorCommand, ScriptFault, read_script};
 use crate::script_lines::MOST_COMMANDS;
 use crate::settings::Settings;
@@ -81,8 +81,5 @@ pub fn run_monitor<W: Watch>(
         Err(refusal) => return refuse(alloc, &refusal),
     };
     let text = carry_out(alloc, settings, commands.as_slice(), &image, watch)?;
-    Ok(Reply {
-        accepted: true,
-        text,
-    })
+    Ok(accept(text))
 }

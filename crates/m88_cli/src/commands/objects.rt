@@ -9,7 +9,7 @@ ghost use Rattle.m88_asm.specs.LinkedTexts.{IsRefusedObjects};
 ghost use Rattle.m88_cli.specs.Inside.Reply.{Replies};
 
 use crate::commands::source_fault::unlinked;
-use crate::reply::{Reply, refuse};
+use crate::reply::{Reply, accept, refuse};
 use m88_base::{NoMemory, Refusal};
 use m88_link::{Object, ObjectFault, link, read_objects};
 use m88_srec::write_srec;
@@ -29,10 +29,7 @@ pub fn link_objects(alloc: Global, text: &[u8]) -> Result<Reply, NoMemory>
         Err(fault) => return refuse(alloc, &unlinked(alloc, 0, fault)?),
     };
     let records = write_srec(alloc, &image)?;
-    Ok(Reply {
-        accepted: true,
-        text: records,
-    })
+    Ok(accept(records))
 }
 
 /// The objects of a text, or the refusal of one that is none of sound objects.

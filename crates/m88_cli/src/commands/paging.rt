@@ -14,7 +14,7 @@ use crate::commands::assembly::image_of_source;
 use crate::grammar::{first_word, plain_settings};
 use crate::limits::MOST_FRAMES;
 use crate::numbers::decimal_number;
-use crate::reply::{Reply, refuse};
+use crate::reply::{Reply, accept, refuse};
 use crate::settings::Settings;
 use m88_base::NoMemory;
 use m88_pager::{MemStore, Paged, page_run};
@@ -71,10 +71,7 @@ pub fn page_source(
         return Err(NoMemory);
     };
     let text = paged_text(alloc, frames, &paged)?;
-    Ok(Reply {
-        accepted: true,
-        text,
-    })
+    Ok(accept(text))
 }
 
 /// What is told of a paged run.

@@ -12,7 +12,7 @@ ghost use Rattle.m88_cli.specs.Words.{texts};
 use crate::commands::Command;
 use crate::commands::assembly::image_of_source;
 use crate::grammar::settings;
-use crate::reply::{Reply, refuse};
+use crate::reply::{Reply, accept, refuse};
 use crate::settings::Settings;
 use m88_base::{Image, NoMemory, Refusal};
 use m88_board::{Board, Watch};
@@ -95,10 +95,7 @@ fn run_image<W: Watch>(
 {
     let outcome = outcome_of(alloc, settings, image, watch)?;
     let text = report(alloc, &outcome)?;
-    Ok(Reply {
-        accepted: true,
-        text,
-    })
+    Ok(accept(text))
 }
 
 /// What a run of the program that an image holds comes to, on a board that is shown to the watch after each event.

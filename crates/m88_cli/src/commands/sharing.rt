@@ -16,7 +16,7 @@ use crate::grammar::{first_word, no_more};
 use crate::limits::MOST_LIMIT;
 use crate::numbers::decimal_number;
 use crate::pages::absent_of;
-use crate::reply::{Reply, refuse};
+use crate::reply::{Reply, accept, refuse};
 use m88_base::{Absent, NoMemory, push_decimal};
 use m88_event::Outcome;
 use m88_report::{push_count, push_named, report};
@@ -62,10 +62,7 @@ pub fn share_board(
     let tasks = Tasks::new(alloc, images.as_slice(), absent, limit)?;
     let shared = tasks.run(schedule)?;
     let text = shared_text(alloc, &shared)?;
-    Ok(Reply {
-        accepted: true,
-        text,
-    })
+    Ok(accept(text))
 }
 
 /// What is told of a shared run.

@@ -14,7 +14,7 @@ use crate::commands::workload::Draws;
 use crate::grammar::{first_word, no_more};
 use crate::limits::MOST_STATEMENTS;
 use crate::numbers::decimal_number;
-use crate::reply::Reply;
+use crate::reply::{Reply, accept};
 use crate::settings::Settings;
 use m88_base::{Absent, NoMemory};
 use m88_board::Watch;
@@ -65,8 +65,5 @@ pub fn run_workload<W: Watch>(
     };
     let outcome = outcome_of(alloc, &settings, &image, watch)?;
     let text = summary(alloc, number, count, &outcome)?;
-    Ok(Reply {
-        accepted: true,
-        text,
-    })
+    Ok(accept(text))
 }

@@ -10,7 +10,7 @@ ghost use Rattle.m88_cli.specs.Words.{texts};
 use crate::commands::Command;
 use crate::commands::assembly::image_of_source;
 use crate::grammar::plain_settings;
-use crate::reply::{Reply, refuse};
+use crate::reply::{Reply, accept, refuse};
 use crate::settings::Settings;
 use m88_base::{NoMemory, Refusal, parted_at};
 use m88_report::push_count;
@@ -46,10 +46,7 @@ pub fn trace_source(alloc: Global, settings: &Settings, source: &[u8]) -> Result
         settings.limit,
         &settings.schedule,
     )?;
-    Ok(Reply {
-        accepted: true,
-        text,
-    })
+    Ok(accept(text))
 }
 
 /// The reply of `check` to an input.
@@ -69,10 +66,7 @@ pub fn check_source(alloc: Global, input: &[u8]) -> Result<Reply, NoMemory>
         Ok(lines) => {
             let mut text = Vec::new(alloc);
             push_count(&mut text, b"ok", u64::from(lines))?;
-            Ok(Reply {
-                accepted: true,
-                text,
-            })
+            Ok(accept(text))
         }
         Err(TraceFault::Differs { line }) => refuse(alloc, &differs(alloc, parted.lines, line)?),
         Err(TraceFault::Memory) => Err(NoMemory),

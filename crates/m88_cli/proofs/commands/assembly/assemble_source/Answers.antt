@@ -15,11 +15,11 @@ returns-in-Err c =
 pub returns : goal.returns
 returns c =
     let own : IsObjectsOf c.args.source.now c.in-Ok.objects.items = rw c.in-Ok.is at c.in_ok-objects.ensures.objects in
-    record {
+    rw c.accept.ensures (record {
       accepted = record { unit = own.unit; is_unit = own.is_unit; is_assembled = own.is_assembled };
       output = record {
         unit = own.unit;
         is_unit = own.is_unit;
         is_text = c.in_ok-text.ensures.text ∙ ap objects_text (c.as_slice.ensures.value ∙ own.objects_are);
       };
-    }
+    })

@@ -14,5 +14,5 @@ returns-in-Err c =
 pub returns : goal.returns
 returns c =
     let h : HoldsUnit c.args.source.now c.in-Ok.image = rw c.in-Ok.is at c.in_ok-image.ensures in
-    recorded c.args.source.now c.in_ok-text.text.items h.unit c.in-Ok.image h.is_unit h.is_accepted h.is_image
-    c.in_ok-text.ensures.value
+    rw c.accept.ensures (recorded c.args.source.now c.in_ok-text.text.items h.unit c.in-Ok.image h.is_unit h.is_accepted
+    h.is_image c.in_ok-text.ensures.value)

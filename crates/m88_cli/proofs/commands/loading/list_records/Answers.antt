@@ -15,7 +15,7 @@ returns-in-Err c = λ text are.
 pub returns : goal.returns
 returns c = λ text are.
     let written = subst (λ records. AreRecordsOf records text) c.in-Ok.is are in
-    record {
+    rw c.accept.ensures (record {
       accepted = (whole_of c.in-Ok.image, written);
       output = record {
         image = c.in-Ok.image;
@@ -23,7 +23,7 @@ returns c = λ text are.
         is_written = written;
         is_listing = c.in_ok-text.ensures.value;
       };
-    }
+    })
 
 -- each part has a byte
 pub prove-unreachable-requires : goal.prove-unreachable-requires

@@ -26,7 +26,7 @@ returns-in_err-text g c =
 pub returns : goal.returns
 returns g c =
     let found = rw c.in-Ok.is at c.in_ok-parts.ensures in
-    record {
+    rw c.accept.ensures (record {
       reply = record {
         accepted = accepted_input c.args.input.now c.in-Ok.parts.0.items found.0 found.1 c.in-Ok.parts.1 found.2 found.3;
         output = session_of_input c.args.input.now (settings_in c.args.settings.now) c.as_slice.result.now found.0 found.1
@@ -37,4 +37,4 @@ returns g c =
           c.in-Ok.parts.1 _ _ (rw c.as_slice.ensures.value found.2) found.3 c.carry_out.ensures.is_image
           c.in_ok-text.text.items c.in_ok-text.ensures.made;
       front = tt;
-    }
+    })

@@ -47,11 +47,11 @@ returns c =
     c.in-Ok-link.ensures.linkable in
     let linked = subst (λ (os : List Object). IsLinked (layout_of os) c.in-Ok-link.image) c.as_slice.ensures.value
     c.in-Ok-link.ensures.image in
-    record {
+    rw c.accept.ensures (record {
       accepted = record { objects = objects; is_text = read; is_linkable = links };
       output = record {
         image = c.in-Ok-link.image;
         of_objects = record { objects = objects; is_text = read; is_image = c.in_ok-records.ensures.image; is_linked = linked };
         is_output = c.in_ok-records.ensures.value;
       };
-    }
+    })

@@ -20,7 +20,7 @@ returns c =
     let comes : PagesTo c.args.source.now c.args.frames s c.in-Ok-page_run.paged =
     holds_by_image c.args.source.now c.in-Ok.image p.0 _ holds p.1 (λ q is mode.
     let run = c.in-Ok-page_run.ensures.run q is mode in (run.outcome tt, run.counts)) in
-    record {
+    rw c.accept.ensures (record {
       accepted = accepted_source c.args.source.now c.in-Ok.image holds;
       output = record {
         paged = c.in-Ok-page_run.paged;
@@ -28,4 +28,4 @@ returns c =
         alone = λ t other same also. one_count c.args.source.now c.args.frames s t other c.in-Ok-page_run.paged same also comes;
         is_text = c.in_ok-text.ensures;
       };
-    }
+    })

@@ -16,7 +16,7 @@ returns-in_err-text g c =
     (c.in_ok-outcome.ensures.made p of mode).1)
 
 pub returns : goal.returns
-returns g c = record {
+returns g c = rw c.accept.ensures (record {
   is_image = c.outcome_of.ensures.is_image;
   made = λ p of mode.
       let own = c.in_ok-outcome.ensures.made p of mode in (
@@ -28,4 +28,4 @@ returns g c = record {
         own.1,
       );
   front = tt;
-}
+})

@@ -65,7 +65,7 @@ returns c =
     let stands = c.in_ok-tasks.ensures.at g (is_group c.args.input.now images absent limit h s) in
     let o = c.in_ok-shared.shared in
     let tasks = c.in_ok-tasks.tasks in
-    record {
+    rw c.accept.ensures (record {
       accepted = record {
         sources = h.sources;
         are_sources = h.are_sources;
@@ -86,4 +86,4 @@ returns c =
             stands.programs.limit c.in_ok-shared.ensures.ran.within);
         is_text = c.in_ok-text.ensures;
       };
-    }
+    })

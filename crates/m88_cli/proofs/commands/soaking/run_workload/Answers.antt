@@ -132,7 +132,7 @@ returns g c = λ input.
     let runs = runs_workload c.args.number c.args.count input c.as_slice.result.now c.in-Ok.image c.in-Some.schedule source_is
     (read_letters c.read.result c.in-Some.schedule _ c.in-Some.is (c.read.ensures.only _ letters))
     (rw c.in-Ok.is at c.in_ok-image.ensures) c.outcome_of.ensures.is_image in
-    record {
+    rw c.accept.ensures (record {
       reply = run_answer _ _ _ _ _ _ runs c.in_ok-text.text.items
           (λ p of mode.
           let own = (c.in_ok-outcome.ensures.made p of mode).0 in
@@ -143,4 +143,4 @@ returns g c = λ input.
           });
       watched = run_shown _ _ _ _ _ _ runs _ _ (λ p of mode. (c.in_ok-outcome.ensures.made p of mode).1);
       front = tt;
-    }
+    })

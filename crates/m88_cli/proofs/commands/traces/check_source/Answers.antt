@@ -42,7 +42,7 @@ returns-in-Ok-check_trace c =
       is_program = accepted_source parts.source c.in-Ok-2.image holds;
       begins = begins;
     } in
-    record { accepted = (n, has); output = (n, has, told) }
+    rw c.accept.ensures (record { accepted = (n, has); output = (n, has, told) })
 
 pub returns-in-Err-Differs : goal.returns-in-Err-Differs
 returns-in-Err-Differs c =

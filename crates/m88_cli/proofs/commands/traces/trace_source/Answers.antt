@@ -14,8 +14,8 @@ pub returns : goal.returns
 returns c =
     let p = c.trace_run.ensures.program in
     let holds : HoldsUnit c.args.source.now c.in-Ok.image = rw c.in-Ok.is at c.in_ok-image.ensures in
-    record {
+    rw c.accept.ensures (record {
       accepted = accepted_source c.args.source.now c.in-Ok.image holds;
       output = holds_by_image c.args.source.now c.in-Ok.image p.0 _ holds p.1
           (λ q is mode. (c.in_ok-text.ensures.run q is mode, c.in_ok-text.ensures.alone q is mode));
-    }
+    })
