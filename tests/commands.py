@@ -4,8 +4,6 @@ import re
 from typing import NamedTuple
 
 TOP = os.path.dirname(os.path.dirname(os.path.realpath(__file__)))
-# How a word is shown that the usage text doesn't call by the name that the table has.
-SHOWN = {"Mode": "[mxm]", "Turns": "SCHEDULE"}
 
 
 class Form(NamedTuple):
@@ -19,9 +17,7 @@ def forms():
     """The form of each command, in the order of the table."""
     with open(os.path.join(TOP, "crates", "m88_cli", "src", "commands.rt"), encoding="utf-8") as file:
         text = file.read()
-    lists = {name: re.findall(r"Place::(\w+)", places)
-             for name, places in re.findall(r"const (\w+): \[Place; \d+\] =\s*\[([^\]]*)\]", text)}
-    rows = re.findall(r'^    Form\("(\w+)", &(\w+|\[\]), Reads::(\w+)\),$', text, re.M)
+    rows = re.findall(r'^    Form\("(\w+)", "([^"]*)", Reads::(\w+)\),$', text, re.M)
     if not rows or len(rows) != int(re.search(r"const FORMS: \[Form; (\d+)\]", text).group(1)):
         raise ValueError("not every row of the table is understood")
-    return {name: Form([SHOWN.get(place, place.upper()) for place in ([] if places == "[]" else lists[places])], given) for name, places, given in rows}
+    return {name: Form(words.split(), given) for name, words, given in rows}

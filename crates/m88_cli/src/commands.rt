@@ -5,7 +5,7 @@ ghost use Rattle.m88_cli.specs.Inside.Inputs.{IsKeptAs, IsMadeOf};
 ghost use Rattle.m88_cli.specs.Inside.Reply.{AnswersShown};
 ghost use Rattle.m88_cli.specs.Words.{texts};
 
-use crate::forms::{Form, Place, Reads};
+use crate::forms::{Form, Reads};
 use crate::grammar::{first_word, no_more};
 use crate::input::Input;
 use crate::limits::SESSION_LIMIT;
@@ -116,34 +116,21 @@ pub enum Command<'a> {
     Check,
 }
 
-const RUN: [Place; 4] = [Place::Limit, Place::Absent, Place::Schedule, Place::Mode];
-
-const SHARED: [Place; 3] = [Place::Limit, Place::Absent, Place::Turns];
-
-/// A run without a mode.
-const PLAIN: [Place; 3] = [Place::Limit, Place::Absent, Place::Schedule];
-
-const PAGED: [Place; 4] = [Place::Frames, Place::Limit, Place::Absent, Place::Schedule];
-
-const SESSION: [Place; 3] = [Place::Absent, Place::Schedule, Place::Mode];
-
-const WORKLOAD: [Place; 2] = [Place::Number, Place::Count];
-
 /// How every command is called, in the order in which they are told.
 pub const FORMS: [Form; 13] = [
-    Form("run", &RUN, Reads::Source),
-    Form("exec", &RUN, Reads::Records),
-    Form("dis", &[], Reads::Records),
-    Form("asm", &[], Reads::Source),
-    Form("link", &[], Reads::Objects),
-    Form("build", &[], Reads::Source),
-    Form("mon", &SESSION, Reads::Script),
-    Form("share", &SHARED, Reads::Sources),
-    Form("emu", &PLAIN, Reads::Source),
-    Form("page", &PAGED, Reads::Source),
-    Form("trace", &PLAIN, Reads::Source),
-    Form("check", &[], Reads::Trace),
-    Form("soak", &WORKLOAD, Reads::Nothing),
+    Form("run", "LIMIT ABSENT SCHEDULE [mxm]", Reads::Source),
+    Form("exec", "LIMIT ABSENT SCHEDULE [mxm]", Reads::Records),
+    Form("dis", "", Reads::Records),
+    Form("asm", "", Reads::Source),
+    Form("link", "", Reads::Objects),
+    Form("build", "", Reads::Source),
+    Form("mon", "ABSENT SCHEDULE [mxm]", Reads::Script),
+    Form("share", "LIMIT ABSENT SCHEDULE", Reads::Sources),
+    Form("emu", "LIMIT ABSENT SCHEDULE", Reads::Source),
+    Form("page", "FRAMES LIMIT ABSENT SCHEDULE", Reads::Source),
+    Form("trace", "LIMIT ABSENT SCHEDULE", Reads::Source),
+    Form("check", "", Reads::Trace),
+    Form("soak", "NUMBER COUNT", Reads::Nothing),
 ];
 
 /// The command that the words spell. None for words that spell none.

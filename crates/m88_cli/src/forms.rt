@@ -1,20 +1,4 @@
-//! How a command is called: the words after its name, and what it reads. What a person is told goes by it; what is
-//! taken is for the grammar to say.
-
-/// A word after the name of a command.
-#[derive(Clone, Copy, PartialEq, Eq, Debug)]
-pub enum Place {
-    Frames,
-    Limit,
-    Absent,
-    Schedule,
-    /// A schedule that may hand the board on.
-    Turns,
-    /// It may be left out, and stands last.
-    Mode,
-    Number,
-    Count,
-}
+//! What a person is told of how a command is called; what is taken is for the grammar to say.
 
 /// What a command reads on standard input.
 #[derive(Clone, Copy, PartialEq, Eq, Debug)]
@@ -28,23 +12,7 @@ pub enum Reads {
     Objects,
 }
 
-/// How a command is called: its name, the words after it, and what it reads.
+/// How a command is called: its name, the words after it, as a person is shown them, with blanks between, and what it
+/// reads. A word in brackets may be left out, and stands last.
 #[derive(Clone, Copy, Debug)]
-pub struct Form(pub &'static str, pub &'static [Place], pub Reads);
-
-impl Form {
-    /// The name.
-    pub fn name(self) -> &'static str {
-        self.0
-    }
-
-    /// The words after the name; the last may be one that may be left out.
-    pub fn places(self) -> &'static [Place] {
-        self.1
-    }
-
-    /// What it reads.
-    pub fn reads(self) -> Reads {
-        self.2
-    }
-}
+pub struct Form(pub &'static str, pub &'static str, pub Reads);

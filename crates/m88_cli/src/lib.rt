@@ -24,7 +24,7 @@ mod script_line;
 mod script_lines;
 
 pub use commands::{Command, FORMS, spelled as command};
-pub use forms::{Form, Place, Reads};
+pub use forms::{Form, Reads};
 pub use limits::{MOST_FRAMES, MOST_INPUT, MOST_LIMIT, MOST_STATEMENTS};
 pub use m88_base::Status;
 pub use program::m88;

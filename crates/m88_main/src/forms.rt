@@ -1,32 +1,71 @@
 //! How a person is told how a command is called. The table of the commands is that of `m88_cli`; what is taken is for
 //! `m88_cli::command` to say.
 
-use m88_cli::{FORMS, Form, MOST_FRAMES, MOST_LIMIT, MOST_STATEMENTS, Place, Reads};
+use m88_cli::{FORMS, Form, MOST_FRAMES, MOST_LIMIT, MOST_STATEMENTS, Reads};
 use std::fmt;
+
+/// A word after the name of a command.
+#[derive(Clone, Copy, PartialEq, Eq, Debug)]
+pub enum Place {
+    Frames,
+    Limit,
+    Absent,
+    Schedule,
+    /// A schedule that may hand the board on.
+    Turns,
+    /// It may be left out, and stands last.
+    Mode,
+    Number,
+    Count,
+}
 
 /// The form of the command of a name.
 pub fn form_of(name: &str) -> Option<Form> {
-    FORMS.iter().find(|form| form.name() == name).copied()
+    FORMS.iter().find(|form| form.0 == name).copied()
 }
 
 /// Whether a command reads anything.
 pub fn reads_input(form: Form) -> bool {
-    form.reads() != Reads::Nothing
+    form.2 != Reads::Nothing
 }
 
 /// Whether it reads lines that a person wrote, who wants to see the one at fault.
 pub fn reads_lines(form: Form) -> bool {
-    match form.reads() {
+    match form.2 {
         Reads::Source | Reads::Sources | Reads::Script | Reads::Trace => true,
         Reads::Nothing | Reads::Records | Reads::Objects => false,
     }
 }
 
-/// The least number of words after its name.
+/// The greatest number of words after its name.
+pub fn most(form: Form) -> usize {
+    if form.1.is_empty() {
+        return 0;
+    }
+    form.1.split(" ").count()
+}
+
+/// The least number of them.
 pub fn fewest(form: Form) -> usize {
-    match form.places().split_last() {
-        Some((Place::Mode, others)) => others.len(),
-        _ => form.places().len(),
+    if form.1.ends_with("[mxm]") {
+        most(form).saturating_sub(1)
+    } else {
+        most(form)
+    }
+}
+
+/// The word, from 0, after its name.
+pub fn place_at(form: Form, at: usize) -> Option<Place> {
+    match form.1.split(" ").nth(at)? {
+        "FRAMES" => Some(Place::Frames),
+        "LIMIT" => Some(Place::Limit),
+        "ABSENT" => Some(Place::Absent),
+        "SCHEDULE" if form.0 == "share" => Some(Place::Turns),
+        "SCHEDULE" => Some(Place::Schedule),
+        "[mxm]" => Some(Place::Mode),
+        "NUMBER" => Some(Place::Number),
+        "COUNT" => Some(Place::Count),
+        _ => None,
     }
 }
 
@@ -85,14 +124,12 @@ pub struct Call(pub Form);
 
 impl fmt::Display for Call {
     fn fmt<W: fmt::Write>(&self, f: &mut fmt::Formatter<W>) -> fmt::Result {
-        write!(f, "m88 {}", self.0.name())?;
-        for place in self.0.places() {
-            match place {
-                Place::Mode => f.write_str(" [mxm]")?,
-                _ => write!(f, " {}", place_name(*place))?,
-            }
+        let Form(name, words, reads) = self.0;
+        write!(f, "m88 {name}")?;
+        if !words.is_empty() {
+            write!(f, " {words}")?;
         }
-        f.write_str(input_name(self.0.reads()))
+        f.write_str(input_name(reads))
     }
 }
 

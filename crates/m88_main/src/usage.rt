@@ -1,7 +1,9 @@
 //! What a person is told where the words are no command: which of them was not understood, and what is wanted.
 
-use crate::forms::{Call, Meaning, fewest, form_of, place_name, reads_input, sample_of};
-use m88_cli::{FORMS, Form, Place, command};
+use crate::forms::{
+    Call, Meaning, Place, fewest, form_of, most, place_at, place_name, reads_input, sample_of,
+};
+use m88_cli::{FORMS, Form, command};
 use m88_edge::put_shown;
 use std::alloc::{AllocError, Global};
 use std::fmt;
@@ -33,12 +35,15 @@ impl<'a> Usage<'a> {
         let Some(form) = form_of(name.as_str()) else {
             return Usage::Name(name.as_str());
         };
-        if others.len() < fewest(form) || others.len() > form.places().len() {
+        if others.len() < fewest(form) || others.len() > most(form) {
             return Usage::Count(form, others.len());
         }
-        for (at, (place, word)) in form.places().iter().zip(others).enumerate() {
+        for (at, word) in others.iter().enumerate() {
+            let Some(place) = place_at(form, at) else {
+                break;
+            };
             if !matches!(is_understood(alloc, form, at, word.as_str()), Ok(true)) {
-                return Usage::Word(form, *place, word.as_str());
+                return Usage::Word(form, place, word.as_str());
             }
         }
         Usage::All
@@ -49,7 +54,7 @@ impl<'a> Usage<'a> {
         match self {
             Usage::All => false,
             Usage::Name(_) => true,
-            Usage::Count(form, _) => reads_input(*form) && word != form.name(),
+            Usage::Count(form, _) => reads_input(*form) && word != form.0,
             Usage::Word(form, _, wrong) => reads_input(*form) && word == *wrong,
         }
     }
@@ -70,9 +75,12 @@ impl<'a> fmt::Display for NoFile<'a> {
 /// understood in the others.
 fn is_understood(alloc: Global, form: Form, at: usize, word: &str) -> Result<bool, AllocError> {
     let mut words: Vec<String> = Vec::new(alloc);
-    words.push(String::from_str(alloc, form.name())?)?;
-    for (k, place) in form.places().iter().enumerate() {
-        let text = if k == at { word } else { sample_of(*place) };
+    words.push(String::from_str(alloc, form.0)?)?;
+    for k in 0..most(form) {
+        let text = match place_at(form, k) {
+            Some(place) if k != at => sample_of(place),
+            _ => word,
+        };
         words.push(String::from_str(alloc, text)?)?;
     }
     Ok(command(words.as_slice()).is_some())
@@ -89,9 +97,9 @@ impl<'a> fmt::Display for Usage<'a> {
                 put_all(f)
             }
             Usage::Count(form, count) => {
-                write!(f, "m88 {}: it takes {}", form.name(), fewest(*form))?;
-                if fewest(*form) < form.places().len() {
-                    write!(f, " or {}", form.places().len())?;
+                write!(f, "m88 {}: it takes {}", form.0, fewest(*form))?;
+                if fewest(*form) < most(*form) {
+                    write!(f, " or {}", most(*form))?;
                 }
                 write!(
                     f,
@@ -100,7 +108,7 @@ impl<'a> fmt::Display for Usage<'a> {
                 )
             }
             Usage::Word(form, place, word) => {
-                write!(f, "m88 {}: {} can't be ", form.name(), place_name(*place))?;
+                write!(f, "m88 {}: {} can't be ", form.0, place_name(*place))?;
                 put_word(f, word)?;
                 write!(f, "\n{}\nusage: {}", Meaning(*place), Call(*form))
             }
