@@ -45,11 +45,11 @@ mod summary;
 mod traces;
 mod workload;
 
-/// What the words of the program ask for.
+/// What the words of the program ask for. A run retires at most `limit` instructions, its pages `absent` are absent at
+/// first, its events begin with the letters of `schedule`, and MXM is set at its start by `mxm`, or clear.
 #[derive(Drop, Debug)]
 pub enum Command<'a> {
-    /// The report of a run of a source that retires at most `limit` instructions, with pages absent at first, the
-    /// letters that its events begin with, and MXM set at its start or clear.
+    /// The report of a run of a source.
     Run {
         limit: u32,
         absent: Absent,
@@ -71,8 +71,7 @@ pub enum Command<'a> {
     Build,
     /// The listing of the image that S-records write.
     Dis,
-    /// What the monitor writes for a script over a source, with pages absent at first, the letters that the events
-    /// begin with, and MXM set at the start or clear.
+    /// What the monitor writes for a script over a source.
     Mon {
         absent: Absent,
         schedule: Schedule<'a>,
@@ -83,30 +82,26 @@ pub enum Command<'a> {
         number: u32,
         count: u32,
     },
-    /// The reports of the programs of one to eight sources on one board, each of which retires at most `limit`
-    /// instructions, with these pages absent at first for each, and the letters that the events of the board begin
-    /// with; MXM is clear.
+    /// The reports of the programs of one to eight sources on one board; limit and absent pages are those of each.
     Share {
         limit: u32,
         absent: Absent,
         schedule: ShareSchedule<'a>,
     },
-    /// The report of a run of a source whose monitor does what the chip leaves to software, and what it did; MXM is
-    /// clear.
+    /// The report of a run of a source whose monitor does what the chip leaves to software, and what it did.
     Emu {
         limit: u32,
         absent: Absent,
         schedule: Schedule<'a>,
     },
-    /// The report of a run of a source whose memory stands a second time in 1 to 64 frames before a store of pages, and
-    /// how often pages came in and went out; MXM is clear.
+    /// The report of a run of a source whose memory stands in 1 to 64 frames too, and how often pages came in and out.
     Page {
         frames: u32,
         limit: u32,
         absent: Absent,
         schedule: Schedule<'a>,
     },
-    /// The trace of a run of a source; MXM is clear.
+    /// The trace of a run of a source.
     Trace {
         limit: u32,
         absent: Absent,
