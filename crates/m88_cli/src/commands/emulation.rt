@@ -87,6 +87,5 @@ fn push_emulation(text: &mut Vec<u8>, number: u64, emulation: Emulation) -> Resu
     push_hex8(text, emulation.at)?;
     text.extend_from_slice(b" vector ")?;
     push_decimal(text, u64::from(emulation.vector))?;
-    text.push(b'\n')?;
-    Ok(())
+    text.extend_from_slice(b"\n")
 }

@@ -134,8 +134,7 @@ fn push_switch_line(text: &mut Vec<u8>, number: u64, switch: Switch) -> Result<(
     push_decimal(text, u64::from(switch.from) + 1)?;
     text.extend_from_slice(b" to ")?;
     push_decimal(text, u64::from(switch.to) + 1)?;
-    text.push(b'\n')?;
-    Ok(())
+    text.extend_from_slice(b"\n")
 }
 
 /// Appends the line of the words that a switch saved.
@@ -147,6 +146,5 @@ fn push_saved(text: &mut Vec<u8>, switch: Switch) -> Result<(), AllocError>
     push_named(text, b" sxip", switch.sxip)?;
     push_named(text, b" snip", switch.snip)?;
     push_named(text, b" sfip", switch.sfip)?;
-    text.push(b'\n')?;
-    Ok(())
+    text.extend_from_slice(b"\n")
 }

@@ -23,11 +23,8 @@ pub fn summary(
     push_count(&mut text, b"retired", u64::from(outcome.retired))?;
     push_count(&mut text, b"events", outcome.events)?;
     push_count(&mut text, b"answers", u64::from(outcome.answers))?;
-    push_count(
-        &mut text,
-        b"faults",
-        outcome.records.as_slice().len() as u64,
-    )?;
+    let faults = outcome.records.as_slice().len() as u64;
+    push_count(&mut text, b"faults", faults)?;
     push_registers_xor(&mut text, &outcome.regs)?;
     push_changes(&mut text, outcome.changed.as_slice())?;
     Ok(text)
@@ -41,8 +38,7 @@ fn push_workload(text: &mut Vec<u8>, number: u32, count: u32) -> Result<(), Allo
     push_decimal(text, u64::from(number))?;
     text.push(b' ')?;
     push_decimal(text, u64::from(count))?;
-    text.push(b'\n')?;
-    Ok(())
+    text.extend_from_slice(b"\n")
 }
 
 /// Appends the line of the exclusive or of all registers.
@@ -64,8 +60,7 @@ fn push_changes(text: &mut Vec<u8>, words: &[(u32, u32)]) -> Result<(), AllocErr
     push_decimal(text, words.len() as u64)?;
     text.push(b' ')?;
     push_hex8(text, xor_of_values(words))?;
-    text.push(b'\n')?;
-    Ok(())
+    text.extend_from_slice(b"\n")
 }
 
 /// The exclusive or of all registers.

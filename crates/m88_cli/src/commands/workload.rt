@@ -106,8 +106,7 @@ fn push_statement(source: &mut Vec<u8>, statement: &Instr) -> Result<(), AllocEr
         ≡ source.old.items ++ (instr_text statement.now ++ line_end)) }
 {
     source.extend_from_slice(text_of(statement).as_bytes())?;
-    source.push(b'\n')?;
-    Ok(())
+    source.extend_from_slice(b"\n")
 }
 
 /// The instruction of a kind, 0 to 7, on two registers and a draw.

@@ -1,5 +1,4 @@
 //! The commands that make events: a number of them, up to a breakpoint, and draining.
-
 ghost use Rattle.m88_cli.specs.Inside.SessionKept.{Carries};
 ghost use Rattle.m88_cli.specs.declared.script.MonitorCommand.TheVariants.{Step, Go, Drain};
 

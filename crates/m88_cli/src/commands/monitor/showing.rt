@@ -1,5 +1,4 @@
 //! What a command shows of the board as it stands.
-
 ghost use Rattle.std.specs.Prelude.{ℕ, Bool, ◌≡◌, ◌++◌, map, OnOk};
 ghost use Rattle.std.specs.List.{flat_map, range_with_len};
 ghost use Rattle.m88_event.specs.Local.{register_seen};
@@ -52,8 +51,7 @@ fn push_count_line(
     push_decimal(text, u64::from(done))?;
     text.extend_from_slice(b" pending ")?;
     push_decimal(text, u64::from(pending))?;
-    text.push(b'\n')?;
-    Ok(())
+    text.extend_from_slice(b"\n")
 }
 
 /// Appends the lines of the registers, of which one that waits for a load has no value, and that of the carry.
@@ -117,6 +115,5 @@ pub(super) fn push_breakpoint(text: &mut Vec<u8>, address: u32) -> Result<(), Al
 {
     text.extend_from_slice(b"break ")?;
     push_hex8(text, address)?;
-    text.push(b'\n')?;
-    Ok(())
+    text.extend_from_slice(b"\n")
 }

@@ -1,5 +1,4 @@
 //! The command `trace`, which tells events one by one.
-
 ghost use Rattle.std.specs.Prelude.{ℕ, Bool, ◌≡◌, ◌++◌, ◌%◌, Option, IfSome, OnOk, codes, decimal};
 ghost use Rattle.m88_base.specs.Hex.{hex2, hex8};
 ghost use Rattle.m88_base.specs.Lines.{line_end};
@@ -178,8 +177,7 @@ fn push_busy(text: &mut Vec<u8>, number: u32) -> Result<(), AllocError>
 {
     text.extend_from_slice(b"busy r")?;
     push_decimal(text, u64::from(number))?;
-    text.push(b'\n')?;
-    Ok(())
+    text.extend_from_slice(b"\n")
 }
 
 /// Appends the number of a fault.
@@ -189,8 +187,7 @@ fn push_fault(text: &mut Vec<u8>, number: u64) -> Result<(), AllocError>
 {
     text.extend_from_slice(b"fault ")?;
     push_decimal(text, number)?;
-    text.push(b'\n')?;
-    Ok(())
+    text.extend_from_slice(b"\n")
 }
 
 /// Appends that a byte was put out for the trap at an address.
@@ -202,6 +199,5 @@ fn push_output(text: &mut Vec<u8>, address: u32, byte: u8) -> Result<(), AllocEr
     push_hex8(text, address)?;
     text.push(b' ')?;
     push_hex2(text, byte)?;
-    text.push(b'\n')?;
-    Ok(())
+    text.extend_from_slice(b"\n")
 }
