@@ -12,8 +12,8 @@ const COLUMNS: usize = 40;
 
 const NUMBER: usize = 7;
 
-/// A sink that hands its bytes to another, and remembers of a listing that refuses its source the line of the source and
-/// the line that refuses, as long as there is memory for them. Its first call is handed the whole listing.
+/// A sink that hands its bytes to another, and remembers of a listing that refuses its source the line of the source
+/// and the line that refuses, as long as there is memory for them. Its first call is handed the whole listing.
 #[derive(Drop)]
 pub(crate) struct Finding<K> {
     alloc: Global,
@@ -99,7 +99,8 @@ fn refused_in(text: &[u8]) -> Option<(&[u8], &[u8])> {
     None
 }
 
-/// The line of the source that a line refuses, the last one of a listing's lines that has its number; None where none has.
+/// The line of the source that a line refuses, the last one of a listing's lines that has its number; None where none
+/// has.
 fn source_in<'a>(text: &'a [u8], refusal: &[u8]) -> Option<&'a [u8]> {
     let (_, place) = split_at_byte(b' ', refusal)?;
     let (number, _) = split_at_byte(b':', place)?;

@@ -32,8 +32,8 @@ fn main(rt: HostRuntime) -> ExitCode {
     ExitCode::from(status.number())
 }
 
-/// The answer of the top call between standard input and standard output. Standard error tells a person where a source is
-/// refused, since the listing may go to a file.
+/// The answer of the top call between standard input and standard output. Standard error tells a person where a source
+/// is refused, since the listing may go to a file.
 fn carry_out(rt: &HostRuntime, words: &[String]) -> Status {
     let mut source = StdSource::new(rt.reader());
     let mut sink = Finding::new(rt.alloc(), StdSink::new(rt.stdout()));

@@ -1,5 +1,5 @@
-//! What no clause says of the calls of the tool chain and no row of `m88_rows` holds. Here stand listings whose source or
-//! sink fails; each other file has a subject of its own.
+//! What no clause says of the calls of the tool chain and no row of `m88_rows` holds. Here stand listings whose source
+//! or sink fails; each other file has a subject of its own.
 
 use m88_base::{MemSink, MemSource, Status};
 use m88_listing::m88list;

@@ -18,7 +18,7 @@ use Rattle.m88_link.specs.declared.object.Section.{Section}
 use Rattle.m88_link.specs.declared.object.Symbol.{Symbol}
 use Rattle.m88_listing.proofs.Naming.{next_number}
 use Rattle.m88_listing.proofs.Standings.{parts_stood}
-use Rattle.m88_listing.specs.Inside.Carrying.{HasAddress, is_kept, kept, settled_object, settled_objects, to_number, zero_symbol}
+use Rattle.m88_listing.specs.Inside.Carrying.{HasAddress, is_kept, kept_relocs, settled_object, settled_objects, to_number, zero_symbol}
 
 -- a room that ends past the last address
 abbrev past : Extent → Bool
@@ -137,23 +137,23 @@ map_more f xs i x l is = ap (λ (k : ℕ). map f (take k xs)) (next_number i) �
 
 -- one relocation more
 kept_next : (g : List Symbol) (p : Placement Object) (rs : List Reloc) (i : ℕ) (r : Reloc) → i < length rs → r ≡ get_or rs i r
-    → kept g p (take (suc i) rs) ≡ kept g p (take i rs) ++ kept g p (r ∷ [])
+    → kept_relocs g p (take (suc i) rs) ≡ kept_relocs g p (take i rs) ++ kept_relocs g p (r ∷ [])
 kept_next g p [] i r l is = absurd (omega (arith, l))
-kept_next g p (q ∷ rs) zero r l is = ap (λ (x : Reloc). kept g p (x ∷ [])) (sym is)
+kept_next g p (q ∷ rs) zero r l is = ap (λ (x : Reloc). kept_relocs g p (x ∷ [])) (sym is)
 kept_next g p (q ∷ rs) (suc i) r l is = by (is_kept g p q) (kept_next g p rs i r (omega (arith, l)) is)
   where
-    by : (t : Bool) → kept g p (take (suc i) rs) ≡ kept g p (take i rs) ++ kept g p (r ∷ [])
+    by : (t : Bool) → kept_relocs g p (take (suc i) rs) ≡ kept_relocs g p (take i rs) ++ kept_relocs g p (r ∷ [])
         → map (to_number g p) (if t then q ∷ filter (is_kept g p) (take (suc i) rs) else filter (is_kept g p) (take (suc i) rs))
-        ≡ map (to_number g p) (if t then q ∷ filter (is_kept g p) (take i rs) else filter (is_kept g p) (take i rs)) ++ kept g p (r ∷ [])
+        ≡ map (to_number g p) (if t then q ∷ filter (is_kept g p) (take i rs) else filter (is_kept g p) (take i rs)) ++ kept_relocs g p (r ∷ [])
     by true more = ap (λ (xs : List Reloc). to_number g p q ∷ xs) more
     by false more = more
 
 pub kept_more : (g : List Symbol) (p : Placement Object) (rs : List Reloc) (i : ℕ) (r : Reloc) → i < length rs → r ≡ get_or rs i r
-    → kept g p (take (i + 1) rs) ≡ kept g p (take i rs) ++ kept g p (r ∷ [])
-kept_more g p rs i r l is = ap (λ (k : ℕ). kept g p (take k rs)) (next_number i) ∙ kept_next g p rs i r l is
+    → kept_relocs g p (take (i + 1) rs) ≡ kept_relocs g p (take i rs) ++ kept_relocs g p (r ∷ [])
+kept_more g p rs i r l is = ap (λ (k : ℕ). kept_relocs g p (take k rs)) (next_number i) ∙ kept_next g p rs i r l is
 
 pub kept_one : (g : List Symbol) (p : Placement Object) (r : Reloc) (o : Option Reloc) → o ≡ (if is_kept g p r then Some (to_number g p r) else None)
-    → option_map_or (λ (x : Reloc). x ∷ []) o [] ≡ kept g p (r ∷ [])
+    → option_map_or (λ (x : Reloc). x ∷ []) o [] ≡ kept_relocs g p (r ∷ [])
 kept_one g p r o is = ap (λ (x : Option Reloc). option_map_or (λ (y : Reloc). y ∷ []) x []) is ∙ by (is_kept g p r)
   where
     by : (t : Bool) → option_map_or (λ (y : Reloc). y ∷ []) (if t then Some (to_number g p r) else None) []

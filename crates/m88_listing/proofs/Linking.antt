@@ -1,4 +1,5 @@
--- The objects that are linked instead can be linked: no name is global, each means something, and each field can take it.
+-- The objects that are linked instead can be linked: no name is global, each means something, and each field can
+-- take it.
 use Rattle.std.proofs.Common.{◌≡◌, ℕ, ◌+◌, ◌^◌, Bool, true, false, List, [], ◌∷◌, ◌++◌, length, map, refl, sym, ap, ◌∙◌, subst, Option, Some, None}
 use Rattle.std.specs.Prelude.{◌%◌, ◌&&◌, filter, flat_map, if◌then◌else◌, slice_get}
 use Rattle.std.specs.Option.{option_map_or, option_or}
@@ -15,7 +16,7 @@ use Rattle.m88_link.specs.declared.object.Place.TheVariants.{Text, DataSection, 
 use Rattle.m88_link.specs.declared.object.Reloc.{Reloc}
 use Rattle.m88_link.specs.declared.object.Section.{Section}
 use Rattle.m88_link.specs.declared.object.Symbol.{Symbol}
-use Rattle.m88_listing.specs.Inside.Carrying.{is_kept, kept, settled_object, settled_objects, to_number, zero_symbol}
+use Rattle.m88_listing.specs.Inside.Carrying.{is_kept, kept_relocs, settled_object, settled_objects, to_number, zero_symbol}
 use Rattle.m88_listing.specs.Settled.{is_known}
 use Rattle.m88_listing.proofs.Reached.{linked_base, numbered_target, same_sizes}
 use Rattle.m88_listing.proofs.Settling.{all_same, made_stood}
@@ -61,7 +62,7 @@ in_reach g p r h =
     ∙ both (is_known g p.part.symbols r.symbol) _ h
 
 uses : List Symbol → List Symbol → Placement Object → List Reloc → List Reference
-uses h g p rs = map (reference h (base_of (linked_base g p)) (zero_symbol ∷ [])) (kept g p rs)
+uses h g p rs = map (reference h (base_of (linked_base g p)) (zero_symbol ∷ [])) (kept_relocs g p rs)
 
 none_undefined : (h g : List Symbol) (p : Placement Object) (rs : List Reloc) → first_fault undefined_in (uses h g p rs) ≡ None
 unfolding uses

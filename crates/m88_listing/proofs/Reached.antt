@@ -36,7 +36,7 @@ use Rattle.m88_asm.specs.Units.{address_in, base_in, based, section_length, unit
 use Rattle.m88_asm.proofs.Laws.{AllFormed, CanFill, EachBased, all_stood, formed, placement, same_base}
 use Rattle.m88_asm.proofs.Composing.{globals_law, spots_law}
 use Rattle.m88_asm.proofs.Relocating.{AreInReach}
-use Rattle.m88_listing.specs.Inside.Carrying.{is_kept, kept, settled_object, settled_objects, to_number}
+use Rattle.m88_listing.specs.Inside.Carrying.{is_kept, kept_relocs, settled_object, settled_objects, to_number}
 use Rattle.m88_listing.specs.Settled.{is_carried_out, is_known, settled_body, settled_module, settled_statement, settled_unit, settled_value}
 use Rattle.m88_listing.proofs.Settling.{all_same, base_settled, globals_settled, lines_settled, made, made_stood, offset_same, section_same, sections_settled, settled_base, settled_line, symbols_settled, unit_stands}
 
@@ -261,13 +261,13 @@ spot_same h g b k x =
     let left : filter (is_kept g p) uses ≡ flat_map symbol_uses (lines_in (settled_module g b)) =
     ap (λ (t : Reloc → Bool). filter t uses) (kept_same g b) ∙ sym (module_reached g b) in
     let value : value_of_name g p ≡ value_of_name g q = same_value g b ∙ sym (value_settled g b) ∙ sym (same_value g (settled_base g b)) in
-    let bytes : relocated (value_of_name h (linked_base g p)) (base_of (linked_base g p)) k (kept g p uses) x.bytes
+    let bytes : relocated (value_of_name h (linked_base g p)) (base_of (linked_base g p)) k (kept_relocs g p uses) x.bytes
     ≡ relocated (value_of_name g q) (base_of q) k (flat_map symbol_uses (lines_in (settled_module g b))) x.bytes =
     numbered_bytes g (value_of_name h (linked_base g p)) p (base_of (linked_base g p)) k (filter (is_kept g p) uses) x.bytes (zero_here h g p)
     ∙ ap (λ (us : List Reloc). relocated (value_of_name g p) (base_of (linked_base g p)) k us x.bytes) left
     ∙ ap (λ (v : List ℕ → ℕ). relocated v (base_of (linked_base g p)) k (flat_map symbol_uses (lines_in (settled_module g b))) x.bytes) value
     ∙ ap (λ (f : ℕ → ℕ). relocated (value_of_name g q) f k (flat_map symbol_uses (lines_in (settled_module g b))) x.bytes) (base_same g b) in
-    ap (λ (n : ℕ). let s : Placed = record { at = n; bytes = relocated (value_of_name h (linked_base g p)) (base_of (linked_base g p)) k (kept g p uses) x.bytes } in s)
+    ap (λ (n : ℕ). let s : Placed = record { at = n; bytes = relocated (value_of_name h (linked_base g p)) (base_of (linked_base g p)) k (kept_relocs g p uses) x.bytes } in s)
     (same_place g b x.place)
     ∙ ap (λ (bs : List ℕ). let s : Placed = record { at = base_at q x.place; bytes = bs } in s) bytes
 

@@ -1,5 +1,6 @@
--- The lines of a listing as text. Three columns with two blanks between each two, the number of the line, an address and
--- bytes or their count, and then the line of the source as it stands, from a multiple of eight on: its tabs stay straight.
+-- The lines of a listing as text. Three columns with two blanks between each two, the number of the line, an address
+-- and bytes or their count, and then the line of the source as it stands, from a multiple of eight on: its tabs stay
+-- straight.
 use Rattle.std.specs.Prelude.{ℕ, ◌-◌, List, [], ◌∷◌, ◌++◌, length, replicate, decimal}
 
 -- the byte between columns and words

@@ -31,8 +31,8 @@ fn push_next<'a>(
     Ok(left)
 }
 
-/// Appends the lines of what is left of a source behind their numbers, up to the line that has a number, or all where no
-/// line has it, and answers what is left then.
+/// Appends the lines of what is left of a source behind their numbers, up to the line that has a number, or all where
+/// no line has it, and answers what is left then.
 pub(crate) fn push_lines<'a>(
     text: &mut Vec<u8>,
     column: &mut Column,

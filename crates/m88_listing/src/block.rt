@@ -1,6 +1,6 @@
 //! A block of bytes that are appended to a text together.
 ghost use Rattle.std.specs.Prelude.{◌≡◌, ◌+◌, ◌≤◌, ◌++◌, [], length, take, OnOk};
-ghost use Rattle.m88_listing.specs.Inside.Pushed.{HasRoom};
+ghost use Rattle.m88_listing.specs.Inside.Pushed.{HasRoomForLine};
 
 use std::alloc::AllocError;
 use std::marker::Model;
@@ -53,7 +53,7 @@ impl Block {
     pub fn make_room(&mut self, text: &mut Vec<u8>) -> Result<(), AllocError>
         ensures same { OnOk result
             (text.new.items ++ self.new ≡ text.old.items ++ self.old) }
-        ensures room { OnOk result (HasRoom self.new) }
+        ensures room { OnOk result (HasRoomForLine self.new) }
     {
         if self.len + MOST_PUT > ROOM {
             self.append_to(text)?;

@@ -3,7 +3,7 @@ ghost use Rattle.std.specs.Prelude.{◌≡◌, ◌+◌, ◌<◌, ◌^◌, ◌++�
 ghost use Rattle.m88_base.specs.Cut.{Lacks};
 ghost use Rattle.m88_base.specs.Lines.{line_end, line_feed};
 ghost use Rattle.m88_listing.specs.Columns.{at_right, bare_line, columns, no_address};
-ghost use Rattle.m88_listing.specs.Inside.Pushed.{HasRoom, IsFirstFeed, PushesFirst};
+ghost use Rattle.m88_listing.specs.Inside.Pushed.{HasRoomForLine, IsFirstFeed, PushesFirst};
 
 use crate::block::Block;
 use itoa::write_digits;
@@ -82,10 +82,10 @@ impl Column {
         self.head = head(number);
     }
 
-    /// Puts the first line of what is left of a source behind its columns into a block that has room for it, and answers
-    /// what is left then. None where that line is long, ends by CR LF, or stands near the end of the source.
+    /// Puts the first line of what is left of a source behind its columns into a block that has room for it, and
+    /// answers what is left then. None where that line is long, ends by CR LF, or stands near the end of the source.
     pub fn put_short<'a>(&self, block: &mut Block, rest: &'a [u8]) -> Option<&'a [u8]>
-        requires { HasRoom block.old }
+        requires { HasRoomForLine block.old }
         ensures some { IfSome result (λ left.
             PushesFirst self.now rest.now block.old block.new left.now) }
         ensures none { IfNone result (block.new ≡ block.old) }
@@ -146,8 +146,7 @@ fn head(number: u64) -> [u8; 40]
     head
 }
 
-/// How many bytes stand before the first line feed of a text; None where it has none. It is looked for near by first,
-/// since lines are short.
+/// How many bytes stand before the first line feed of a text; None where it has none.
 fn feed_at(text: &[u8]) -> Option<usize>
     ensures { MatchOption result (Lacks line_feed text.now) (IsFirstFeed text.now) }
 {

@@ -30,8 +30,8 @@ use std::alloc::Global;
 /// How many times the bytes of a source there is room for from the start, as much as most listings take.
 const ROOM: usize = 4;
 
-/// The reply that refuses a source at a line and a column, both from 1, for a reason, with what is kept of the rows that
-/// it shows.
+/// The reply that refuses a source at a line and a column, both from 1, for a reason, with what is kept of the rows
+/// that it shows.
 fn refuse(
     alloc: Global,
     source: &[u8],

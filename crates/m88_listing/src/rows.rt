@@ -74,8 +74,8 @@ fn push_bytes(
     Ok(())
 }
 
-/// Appends the lines for what is left of a source up to the line that has a number, with what is kept of their rows, and
-/// answers what is left then.
+/// Appends the lines for what is left of a source up to the line that has a number, with what is kept of their rows,
+/// and answers what is left then.
 pub(crate) fn push_part<'a>(
     text: &mut Vec<u8>,
     column: &mut Column,

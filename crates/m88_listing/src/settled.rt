@@ -7,7 +7,7 @@ ghost use Rattle.m88_link.specs.Layout.{layout_of, value_of_name};
 ghost use Rattle.m88_link.specs.Linked.{IsLinked};
 ghost use Rattle.m88_link.specs.Refusal.{AreDisjoint, is_too_large};
 ghost use Rattle.m88_link.specs.Sound.{IsSound};
-ghost use Rattle.m88_listing.specs.Inside.Carrying.{HasAddress, is_kept, kept, settled_object, settled_objects, to_number, zero_symbol};
+ghost use Rattle.m88_listing.specs.Inside.Carrying.{HasAddress, is_kept, kept_relocs, settled_object, settled_objects, to_number, zero_symbol};
 ghost use Rattle.m88_listing.specs.Settled.{is_known};
 
 use crate::names::{Names, globals};
@@ -103,7 +103,7 @@ fn kept_relocs(
     relocs: &[Reloc],
 ) -> Result<Vec<Reloc>, AllocError>
     requires { All (HasAddress placement.now) relocs.now }
-    ensures { IfOk result (λ v. v.items ≡ kept names.now placement.now relocs.now) }
+    ensures { IfOk result (λ v. v.items ≡ kept_relocs names.now placement.now relocs.now) }
 {
     let own = own_symbols(alloc, placement)?;
     let mut out = Vec::new(alloc);

@@ -35,13 +35,13 @@ abbrev pub to_number : List Symbol → Placement Object → Reloc → Reloc
 to_number globals p r = record r { symbol = codes "zero"; addend = target_of (value_of_name globals p) r }
 
 -- those that can be carried out, each to its number
-abbrev pub kept : List Symbol → Placement Object → List Reloc → List Reloc
-kept globals p relocs = map (to_number globals p) (filter (is_kept globals p) relocs)
+abbrev pub kept_relocs : List Symbol → Placement Object → List Reloc → List Reloc
+kept_relocs globals p relocs = map (to_number globals p) (filter (is_kept globals p) relocs)
 
 -- an object with these alone
 abbrev pub settled_object : List Symbol → Placement Object → Object
 settled_object globals p =
-    record p.part { symbols = zero_symbol ∷ []; relocs = kept globals p p.part.relocs }
+    record p.part { symbols = zero_symbol ∷ []; relocs = kept_relocs globals p p.part.relocs }
 
 -- objects so, where they are linked
 abbrev pub settled_objects : List Object → List Object

@@ -12,8 +12,8 @@ abbrev pub bare_text : List (ℕ × List ℕ) → List ℕ
 bare_text lines = text_of_lines (map (λ e. bare_line e.0 e.1) lines)
 
 -- a block of 1,024 bytes has room for a short line of a source behind its columns
-abbrev pub HasRoom : List ℕ → Type 0
-HasRoom block = length block + 128 ≤ 1024
+abbrev pub HasRoomForLine : List ℕ → Type 0
+HasRoomForLine block = length block + 128 ≤ 1024
 
 -- the first LF of a text stands behind so many bytes
 pub record IsFirstFeed (text : List ℕ) (n : ℕ) : Type 0 where
@@ -28,8 +28,8 @@ pub record PushesFirst (number : ℕ) (source before after left : List ℕ) : Ty
   pub text : after ≡ before ++ (bare_line number line ++ line_end)
   pub shorter : length left < length source
 
--- lines of a source were added to a text, the first of them behind a number and the others behind the numbers from there
--- on, and the others are left: those from a number on, or none
+-- lines of a source were added to a text, the first of them behind a number and the others behind the numbers from
+-- there on, and the others are left: those from a number on, or none
 pub record PushesLines (source : List ℕ) (first until next : ℕ) (before after left : List ℕ) : Type 0 where
   pub text : after ≡ before ++ bare_text (take (next - first) (enumerate_from first (lines_of source)))
   pub rest : lines_of left ≡ drop (next - first) (lines_of source)

@@ -4,7 +4,7 @@ use Rattle.std.specs.Option.{option_map_or}
 use Rattle.std.proofs.lemmas.Grind.{common_steps}
 use Rattle.std.proofs.lemmas.List.{append-nil}
 use Rattle.m88_link.specs.declared.object.Reloc.{Reloc}
-use Rattle.m88_listing.specs.Inside.Carrying.{kept}
+use Rattle.m88_listing.specs.Inside.Carrying.{kept_relocs}
 use Rattle.m88_listing.proofs.Addressing.{kept_more, kept_one}
 use Rattle.m88_listing.proofs.settled.kept_relocs.Goals.{in-Some+in_ok-push, in_default}
 use Rattle.m88_listing.proofs.settled.kept_relocs.Goals as goal
@@ -15,7 +15,7 @@ loop-reloc-preserved c =
     let p = c.args.placement.now in
     let r = c.reloc-item.result in
     let i = c.loop-reloc.reloc-index in
-    let done = kept g p (take i c.args.relocs.now) in
+    let done = kept_relocs g p (take i c.args.relocs.now) in
     let own : List Reloc = option_map_or (λ (x : Reloc). x ∷ []) c.kept.result [] in
     let one : c.match-kept.out.items ≡ c.loop-reloc.out.items ++ own =
     elim c.match-kept.branch [
