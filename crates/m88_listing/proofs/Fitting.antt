@@ -24,7 +24,7 @@ use Rattle.m88_asm.specs.Images.{IsUnitImage, run_of, runs_in, unit_byte}
 use Rattle.m88_asm.specs.Objects.{symbols_of}
 use Rattle.m88_asm.specs.Units.{address_in, based, bytes_of, section_length, unit_layout, value_in_module}
 use Rattle.m88_asm.proofs.Laws.{AllFormed, CanFill, EachBased, Has, each_fills, first_parts, formed, has_left, has_right, length-filled_bytes, none_of_both, run_found, runs_law}
-use Rattle.m88_listing.specs.Rows.{Row, named_by, row_of, rows_in, rows_of, rows_of_unit, shown_as, symbol_row}
+use Rattle.m88_listing.specs.Rows.{Row, named_by, row_of, rows_in, rows_of_statement, rows_of_unit, shown_as, symbol_row}
 use Rattle.m88_listing.specs.Inside.Slots.{AllFit, StandsWithin, IsSlot, ModuleFits, found_bytes, kept_row, slots_at, slots_from, slots_of, symbol_slot}
 use Rattle.m88_listing.specs.declared.slots.Slot.{Slot}
 
@@ -209,7 +209,7 @@ same_row globals b found r h =
     ∙ found_same found (address_in b r) 0 bytes (λ k v e. ap found (omega arith) ∙ h k v e)
 
 one_row : (globals : List Symbol) (b : Placement Module) (found : ℕ → Option ℕ) (r : Located) → IsFound globals b found r
-    → rows_of globals b r ≡ map (kept_row found) (slots_at b r)
+    → rows_of_statement globals b r ≡ map (kept_row found) (slots_at b r)
 one_row globals b found r h = by (length_of r == 0)
   where
     slot : Slot
@@ -227,12 +227,12 @@ one_row globals b found r h = by (length_of r == 0)
         let row : Row = record { line = r.statement.line; run = run; shown = shown_as r.statement.body } in row ∷ []) (sym (same_row globals b found r h))
 
 rows_kept : (globals : List Symbol) (b : Placement Module) (found : ℕ → Option ℕ) (c : Counters) (xs : List Statement) → AreFound globals b found c xs
-    → flat_map (rows_of globals b) (located c xs) ≡ map (kept_row found) (slots_from b c xs)
+    → flat_map (rows_of_statement globals b) (located c xs) ≡ map (kept_row found) (slots_from b c xs)
 unfolding located
 rows_kept globals b found c [] h = refl
 rows_kept globals b found c (x ∷ xs) h =
     let r : Located = record { before = c; statement = x } in
-    let rest = flat_map (rows_of globals b) (located (after c x.body) xs) in
+    let rest = flat_map (rows_of_statement globals b) (located (after c x.body) xs) in
     ap (λ rows. rows ++ rest) (one_row globals b found r h.0)
     ∙ ap (λ rows. map (kept_row found) (slots_at b r) ++ rows) (rows_kept globals b found (after c x.body) xs h.1)
     ∙ sym (map-append (kept_row found) (slots_at b r) (slots_from b (after c x.body) xs))

@@ -5,7 +5,7 @@ use Rattle.std.proofs.lemmas.Grind.{common_steps}
 use Rattle.std.proofs.lemmas.Fmt.{decimal_digit, decimal_step, length-decimal-le}
 use Rattle.std.proofs.lemmas.List.{length-replicate}
 use Rattle.std.proofs.Math.Seq.{get_or-append_seam, set-append_seam}
-use Rattle.m88_listing.specs.Columns.{at_left, at_right, blank, blanks, columns, no_address}
+use Rattle.m88_listing.specs.Columns.{at_left, at_right, space_byte, blanks, columns, no_address}
 
 -- what stands before the last digit
 abbrev front : ℕ → List ℕ
@@ -20,7 +20,7 @@ wide (suc tens) small =
     omega (
       arith,
       length-append (blanks (6 - length ds)) ds,
-      length-replicate (6 - length ds) blank,
+      length-replicate (6 - length ds) space_byte,
       length-decimal-le 6 (suc tens) (omega arith) small (omega (arith, small)),
     )
 

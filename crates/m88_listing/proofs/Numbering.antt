@@ -23,10 +23,10 @@ use Rattle.m88_link.specs.Bases.{Placement}
 use Rattle.m88_parse.specs.declared.unit.Module.{Module}
 use Rattle.m88_asm.specs.Units.{address_in, based, bytes_of, unit_layout, value_in_module}
 use Rattle.m88_asm.proofs.Laws.{EachBased, first_parts, length-filled_bytes, none_of_both}
-use Rattle.m88_listing.specs.Columns.{at_left, at_right, bare_line, blank, blanks, columns, further_columns, no_address}
+use Rattle.m88_listing.specs.Columns.{at_left, at_right, bare_line, space_byte, blanks, columns, further_columns, no_address}
 use Rattle.m88_listing.specs.Laws.{EachLineStandsOnce, has_number}
 use Rattle.m88_listing.proofs.Fitting.{each_clean, room_of}
-use Rattle.m88_listing.specs.Rows.{Row, digits, first_bytes, first_of_run, further_line, further_lines, further_of_run, lines_with, named_by, row_on, row_lines, row_of, rows_in, rows_of, rows_of_unit, symbol_row}
+use Rattle.m88_listing.specs.Rows.{Row, digits, first_bytes, first_of_run, further_line, further_lines, further_of_run, lines_with, named_by, row_on, row_lines, row_of, rows_in, rows_of_statement, rows_of_unit, symbol_row}
 use Rattle.m88_listing.specs.declared.slots.Shown.{Shown}
 use Rattle.m88_listing.specs.declared.slots.Shown.TheVariants.{Bytes, Value, Zeros}
 
@@ -83,9 +83,9 @@ wide n address bytes l a b =
     let d = length-decimal-le 7 n (omega arith) l (omega (arith, l)) in
     let r = at_right 7 (decimal n) in
     let e1 = length-append (blanks (7 - length (decimal n))) (decimal n) in
-    let e2 = length-replicate (7 - length (decimal n)) blank in
+    let e2 = length-replicate (7 - length (decimal n)) space_byte in
     let e3 = length-append bytes (blanks (16 - length bytes)) in
-    let e4 = length-replicate (16 - length bytes) blank in
+    let e4 = length-replicate (16 - length bytes) space_byte in
     let two = blanks 2 in
     let five = blanks 5 in
     let left = at_left 16 bytes in
@@ -111,15 +111,15 @@ numbered_front n rest l =
     let front = blanks (7 - length ds) in
     let some = decimal_nonempty n (omega (arith, l)) in
     let few = length-decimal-le 7 n (omega arith) l (omega (arith, l)) in
-    let long : length front ≡ 7 - length ds = length-replicate (7 - length ds) blank in
+    let long : length front ≡ 7 - length ds = length-replicate (7 - length ds) space_byte in
     let last = length ds - 1 in
     let sum : length front + last ≡ 6 = omega (arith, long, some, few) in
-    let here : slice_index_or (front ++ (ds ++ rest)) 6 blank ≡ get_or ds last blank =
-    ap (λ k. get_or (front ++ (ds ++ rest)) k blank) (sym sum)
-    ∙ get_or-append-add front (ds ++ rest) last blank
-    ∙ get_or_append_left ds rest blank last (omega (arith, some)) in
-    let high = digit_high n last blank (omega (arith, l)) (omega (arith, some)) in
-    ap (λ v. not (v == blank)) here ∙ ap not (ne_eqb (get_or ds last blank) blank (λ e. absurd (omega (arith, high, e))))
+    let here : slice_index_or (front ++ (ds ++ rest)) 6 space_byte ≡ get_or ds last space_byte =
+    ap (λ k. get_or (front ++ (ds ++ rest)) k space_byte) (sym sum)
+    ∙ get_or-append-add front (ds ++ rest) last space_byte
+    ∙ get_or_append_left ds rest space_byte last (omega (arith, some)) in
+    let high = digit_high n last space_byte (omega (arith, l)) (omega (arith, some)) in
+    ap (λ v. not (v == space_byte)) here ∙ ap not (ne_eqb (get_or ds last space_byte) space_byte (λ e. absurd (omega (arith, high, e))))
 
 numbered_line : (n : ℕ) (address bytes line : List ℕ) → n < 10 ^ 7 → has_number (columns n address bytes ++ line) ≡ true
 numbered_line n address bytes line l =
@@ -141,7 +141,7 @@ alone_picked n l =
     let has : has_number (front ++ ds) ≡ true =
     ap (λ xs. has_number (front ++ xs)) (sym (append-nil ds)) ∙ numbered_front n [] l in
     let narrow : length (front ++ ds) ≤ 40 =
-    omega (arith, few, length-append front ds, length-replicate (7 - length ds) blank) in
+    omega (arith, few, length-append front ds, length-replicate (7 - length ds) space_byte) in
     pick-first (front ++ ds) [] has ∙ ap (λ x. x ∷ []) (drop_all 40 (front ++ ds) narrow)
 
 first_picked : (n : ℕ) (address bytes line : List ℕ) (more : List (List ℕ)) → n < 10 ^ 7 → length address ≡ 8 → length bytes ≤ 16
@@ -214,7 +214,8 @@ unfolding AreFew
 both_few [] ys p q = q
 both_few (x ∷ xs) ys p q = (p.0, both_few xs ys p.1 q)
 
-one_few : (globals : List Symbol) (b : Placement Module) (r : Located) → length (bytes_of globals b r) ≤ most_bytes → AreFew (rows_of globals b r)
+one_few : (globals : List Symbol) (b : Placement Module) (r : Located) → length (bytes_of globals b r) ≤ most_bytes
+    → AreFew (rows_of_statement globals b r)
 unfolding AreFew
 one_few globals b r few = by (length_of r == 0)
   where
@@ -227,7 +228,7 @@ one_few globals b r few = by (length_of r == 0)
     by false = (few, tt)
 
 rows_few : (globals defined : List Symbol) (b : Placement Module) (c : Counters) (xs : List Statement) → statements_fault defined (located c xs) ≡ None
-    → AreFew (flat_map (rows_of globals b) (located c xs))
+    → AreFew (flat_map (rows_of_statement globals b) (located c xs))
 unfolding AreFew located
 rows_few globals defined b c [] clean = tt
 rows_few globals defined b c (x ∷ xs) clean =
@@ -235,7 +236,7 @@ rows_few globals defined b c (x ∷ xs) clean =
     let parts = first_parts defined c x xs clean in
     let misfit = (none_of_both (option_map duplicate_at (repeated_after defined (symbols_of r))) (misfit_at (offset_of r) (place_of r) x) parts.0).1 in
     let long : length (bytes_of globals b r) ≡ length_of r = length-filled_bytes (value_in_module globals b) (address_in b r) (place_of r) x.body in
-    both_few (rows_of globals b r) (flat_map (rows_of globals b) (located (after c x.body) xs))
+    both_few (rows_of_statement globals b r) (flat_map (rows_of_statement globals b) (located (after c x.body) xs))
     (one_few globals b r (omega (arith, long, room_of r misfit))) (rows_few globals (defined ++ symbols_of r) b (after c x.body) xs parts.1)
 
 modules_few : (globals : List Symbol) (bs : List (Placement Module)) → EachBased (λ b. module_fault b.part ≡ None) bs → AreFew (flat_map (rows_in globals) bs)

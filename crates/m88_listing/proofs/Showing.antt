@@ -17,7 +17,7 @@ use Rattle.m88_parse.specs.declared.unit.Module.{Module}
 use Rattle.m88_asm.specs.Units.{address_in, based, bytes_of, unit_layout, value_in_module}
 use Rattle.m88_asm.proofs.Laws.{Has, has_left, has_right, length-filled_bytes}
 use Rattle.m88_listing.specs.Laws.{EachShowsItsImage, Shows, shown_runs}
-use Rattle.m88_listing.specs.Rows.{Row, named_by, row_of, rows_in, rows_of, rows_of_unit, symbol_row}
+use Rattle.m88_listing.specs.Rows.{Row, named_by, row_of, rows_in, rows_of_statement, rows_of_unit, symbol_row}
 use Rattle.m88_listing.specs.Inside.Slots.{kept_row, slots_of}
 use Rattle.m88_listing.proofs.Climbing.{shown_all, unit_climbs}
 use Rattle.m88_listing.proofs.Fitting.{found_in, unit_kept}
@@ -60,7 +60,7 @@ both f g (inl x) = inl (f x)
 both f g (inr x) = inr (g x)
 
 -- the rows of a statement show what it gives
-one_shows : (globals : List Symbol) (bs : Placement Module) (r : Located) (a b : ℕ) → Shows (runs (rows_of globals bs r)) a b
+one_shows : (globals : List Symbol) (bs : Placement Module) (r : Located) (a b : ℕ) → Shows (runs (rows_of_statement globals bs r)) a b
     → byte_in (run_of globals bs r) a ≡ Some b
 one_shows globals bs r a b = by (length_of r == 0)
   where
@@ -76,7 +76,7 @@ one_shows globals bs r a b = by (length_of r == 0)
     by false (inr h) = absurd h
 
 one_shown : (globals : List Symbol) (bs : Placement Module) (r : Located) (a b : ℕ) → byte_in (run_of globals bs r) a ≡ Some b
-    → Shows (runs (rows_of globals bs r)) a b
+    → Shows (runs (rows_of_statement globals bs r)) a b
 one_shown globals bs r a b e = by (length_of r == 0) refl
   where
     long : length (bytes_of globals bs r) ≡ length_of r
@@ -91,13 +91,13 @@ one_shown globals bs r a b e = by (length_of r == 0) refl
 
 -- and so do those of statements
 kept_shows : (globals : List Symbol) (bs : Placement Module) (rs : List Located) (a b : ℕ)
-    → Shows (runs (flat_map (rows_of globals bs) rs)) a b → Has (map (run_of globals bs) rs) a b
+    → Shows (runs (flat_map (rows_of_statement globals bs) rs)) a b → Has (map (run_of globals bs) rs) a b
 unfolding Has
 kept_shows globals bs [] a b h = h
 kept_shows globals bs (r ∷ rs) a b h =
     both (one_shows globals bs r a b) (kept_shows globals bs rs a b)
-    (shows_either (runs (rows_of globals bs r)) (runs (flat_map (rows_of globals bs) rs)) a b
-    (subst (λ ps. Shows ps a b) (runs-append (rows_of globals bs r) (flat_map (rows_of globals bs) rs)) h))
+    (shows_either (runs (rows_of_statement globals bs r)) (runs (flat_map (rows_of_statement globals bs) rs)) a b
+    (subst (λ ps. Shows ps a b) (runs-append (rows_of_statement globals bs r) (flat_map (rows_of_statement globals bs) rs)) h))
 
 has_append : (ps qs : List Placed) (a b : ℕ) → Has ps a b ⊎ Has qs a b → Has (ps ++ qs) a b
 has_append ps qs a b (inl h) = has_left ps qs a b h
@@ -119,17 +119,17 @@ either_some (Some x) q v h = inl h
 either_some None q v h = inr h
 
 found_row : (globals : List Symbol) (bs : Placement Module) (rs : List Located) (a b : ℕ) → byte_among (map (run_of globals bs) rs) a ≡ Some b
-    → Shows (runs (flat_map (rows_of globals bs) rs)) a b
+    → Shows (runs (flat_map (rows_of_statement globals bs) rs)) a b
 found_row globals bs [] a b h = cc
 found_row globals bs (r ∷ rs) a b h =
-    subst (λ ps. Shows ps a b) (sym (runs-append (rows_of globals bs r) (flat_map (rows_of globals bs) rs)))
+    subst (λ ps. Shows ps a b) (sym (runs-append (rows_of_statement globals bs r) (flat_map (rows_of_statement globals bs) rs)))
     (joined (either_some (byte_in (run_of globals bs r) a) (byte_among (map (run_of globals bs) rs) a) b h) (found_row globals bs rs a b))
   where
     joined : (byte_in (run_of globals bs r) a ≡ Some b) ⊎ (byte_among (map (run_of globals bs) rs) a ≡ Some b)
-        → (byte_among (map (run_of globals bs) rs) a ≡ Some b → Shows (runs (flat_map (rows_of globals bs) rs)) a b)
-        → Shows (runs (rows_of globals bs r) ++ runs (flat_map (rows_of globals bs) rs)) a b
+        → (byte_among (map (run_of globals bs) rs) a ≡ Some b → Shows (runs (flat_map (rows_of_statement globals bs) rs)) a b)
+        → Shows (runs (rows_of_statement globals bs r) ++ runs (flat_map (rows_of_statement globals bs) rs)) a b
     joined (inl e) next = shows_left _ _ a b (one_shown globals bs r a b e)
-    joined (inr e) next = shows_right (runs (rows_of globals bs r)) _ a b (next e)
+    joined (inr e) next = shows_right (runs (rows_of_statement globals bs r)) _ a b (next e)
 
 shown_kept : (globals : List Symbol) (bs : List (Placement Module)) (a b : ℕ)
     → byte_among (flat_map (runs_in globals) bs) a ≡ Some b → Shows (runs (flat_map (rows_in globals) bs)) a b

@@ -4,12 +4,12 @@
 use Rattle.std.specs.Prelude.{ℕ, ◌-◌, List, [], ◌∷◌, ◌++◌, length, replicate, decimal}
 
 -- the byte between columns and words
-abbrev pub blank : ℕ
-blank = 32
+abbrev pub space_byte : ℕ
+space_byte = 32
 
 -- so many blanks
 abbrev pub blanks : ℕ → List ℕ
-blanks n = replicate n blank
+blanks n = replicate n space_byte
 
 -- a text at the right of a column, and at its left; a text that is wider takes what it needs
 abbrev pub at_right : ℕ → List ℕ → List ℕ

@@ -50,12 +50,12 @@ abbrev pub global_mark : Bool → List ℕ
 global_mark seen = if seen then codes " global" else []
 
 -- the word for a section by its number: section 0 is text, section 1 is data, and each other one stands at an address
-abbrev pub section_word : ℕ → List ℕ
-section_word k = if k == 0 then codes "text" else (if k == 1 then codes "data" else codes "at")
+abbrev pub section_name : ℕ → List ℕ
+section_name k = if k == 0 then codes "text" else (if k == 1 then codes "data" else codes "at")
 
 -- the word for a symbol's section behind its value, where it has one
 abbrev pub section_mark : Option ℕ → List ℕ
-section_mark section = option_map_or (λ k. codes " " ++ section_word k) section []
+section_mark section = option_map_or (λ k. codes " " ++ section_name k) section []
 
 -- the line of a symbol: value, section, name, module and line, parted by one blank, and the mark
 abbrev pub entry_line : Entry → List ℕ

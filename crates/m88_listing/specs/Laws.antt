@@ -9,7 +9,7 @@ use Rattle.m88_parse.specs.Language.Units.{IsUnit}
 use Rattle.m88_parse.specs.declared.unit.Unit.{Unit as Source}
 use Rattle.m88_asm.specs.Accepted.{IsAcceptedUnit}
 use Rattle.m88_asm.specs.Images.{IsUnitImage}
-use Rattle.m88_listing.specs.Columns.{before_source, blank}
+use Rattle.m88_listing.specs.Columns.{before_source, space_byte}
 use Rattle.m88_listing.specs.Rows.{Row, numbered_lines, row_on, rows_of_unit, source_lines}
 
 -- the bytes that the lines of a source show, in order of the lines
@@ -30,7 +30,7 @@ EachShowsItsImage =
 
 -- a line of a listing has the number of a line of the source: the last place of the first column isn't blank
 abbrev pub has_number : List ℕ → Bool
-has_number line = not (slice_index_or line 6 blank == blank)
+has_number line = not (slice_index_or line 6 space_byte == space_byte)
 
 -- the lines of a listing that have a number are, without their columns, the lines of the source, each once and in order
 abbrev pub EachLineStandsOnce : Type 0

@@ -4,12 +4,12 @@ use Rattle.std.specs.Prelude.{ℕ, ◌-◌, ◌==◌, if◌then◌else◌, List,
 use Rattle.m88_base.specs.Lines.{line_end, lines_of, text_of_lines}
 use Rattle.m88_base.specs.Refusal.{Refusal, refusal_line}
 use Rattle.m88_parse.specs.Language.Bytes.{tab}
-use Rattle.m88_listing.specs.Columns.{before_source, blank, blanks}
+use Rattle.m88_listing.specs.Columns.{before_source, space_byte, blanks}
 use Rattle.m88_listing.specs.Rows.{Row, lines_with, numbered_lines}
 
 -- what stands below a byte before the mark: a tab below a tab, and a blank below any other byte
 abbrev pub below : ℕ → ℕ
-below b = if b == tab then tab else blank
+below b = if b == tab then tab else space_byte
 
 -- the line with a mark below a column, from 1, of a line of the source
 abbrev pub mark_line : ℕ → List ℕ → List ℕ

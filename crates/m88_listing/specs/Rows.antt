@@ -53,13 +53,13 @@ symbol_row b s = record {
 }
 
 -- the row of a statement: with its bytes, or where it gives none that of what it names
-abbrev pub rows_of : List Symbol → Placement Module → Located → List Row
-rows_of globals b r =
+abbrev pub rows_of_statement : List Symbol → Placement Module → Located → List Row
+rows_of_statement globals b r =
     if length_of r == 0 then option_map_or (λ s. symbol_row b s ∷ []) (named_by r) [] else row_of globals b r ∷ []
 
 -- the rows of the statements of a module
 abbrev pub rows_in : List Symbol → Placement Module → List Row
-rows_in globals b = flat_map (rows_of globals b) (lines_in b.part)
+rows_in globals b = flat_map (rows_of_statement globals b) (lines_in b.part)
 
 -- the rows of the statements of a unit
 abbrev pub rows_of_unit : Source → List Row

@@ -8,7 +8,7 @@ use Rattle.m88_isa.specs.Address.{word_address}
 use Rattle.m88_isa.specs.Machine.{word_bytes}
 use Rattle.m88_isa.specs.declared.instr.Instr.{Instr}
 use Rattle.m88_disasm.specs.Listing.{place_line}
-use Rattle.m88_sourcing.specs.Code.{HasInstruction, InCode, IsCode, IsReached, IsWordAt}
+use Rattle.m88_sourcing.specs.Code.{HasInstruction, InCode, IsCode, IsReached, HoldsInstruction}
 use Rattle.m88_sourcing.specs.Code.IsCode.{reached, in_slot}
 use Rattle.m88_sourcing.specs.Code.IsReached.{begins, leads}
 use Rattle.m88_sourcing.specs.Data.{AreDataLines}
@@ -101,7 +101,7 @@ lines_where P Q line old new same l = record {
 
 -- the lines of a word of code, before those of the others
 pub word_front : (image : ProgramImage) (entries : List ℕ) (at n : ℕ) (i : Instr) (t0 t1 t2 t3 : List ℕ)
-    → IsWordAt image at i → AreAppended (IsLabelled image entries at) t0 t1
+    → HoldsInstruction image at i → AreAppended (IsLabelled image entries at) t0 t1
     → AreAppended (IsStartMarked image at) t1 t2 → t3 ≡ t2 ++ (code_text at i ++ line_end)
     → FrontAppended (AreCodeLines (λ _. []) image entries at (suc n)) (AreCodeLines (λ _. []) image entries (at + 4) n) t0 t3
 word_front image entries at n i t0 t1 t2 t3 stands label start text_is =

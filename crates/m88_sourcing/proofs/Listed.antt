@@ -16,7 +16,7 @@ use Rattle.m88_disasm.specs.Listing.{lone_byte_line}
 use Rattle.m88_disasm.specs.Read.{unlabelled}
 use Rattle.m88_asm.specs.Objects.{uses_in_values}
 use Rattle.m88_disasm.proofs.Laws.{AreBytes, Data, Gives, IsUse, Names, SpokenAs, Stated, gives_byte, more_data, names_in, names_of, no_data, said_byte, spoken}
-use Rattle.m88_sourcing.specs.Data.{AreDataLines, is_own_end, is_printed, is_word_here, item_here, item_length, item_line, most_in_line, printed_here, text_ended, text_here, words_here, words_of, zeros_here}
+use Rattle.m88_sourcing.specs.Data.{AreDataLines, is_own_end, is_printed, is_word_here, item_here, item_length, item_line, most_in_line, printed_here, text_ended, text_here, words_here, whole_words, zeros_here}
 use Rattle.m88_sourcing.specs.Data.AreDataLines.{item, no_line}
 use Rattle.m88_sourcing.specs.declared.item.Item.{Item}
 use Rattle.m88_sourcing.specs.declared.item.Item.TheVariants.{Zeros, Text, Words, Lone}
@@ -183,14 +183,14 @@ first_word (a ∷ b ∷ []) long h = absurd (omega (arith, long))
 first_word (a ∷ b ∷ c ∷ []) long h = absurd (omega (arith, long))
 
 words_are : (n : ℕ) (bytes : List ℕ) → 4 * n ≤ length bytes → AreBytes bytes
-    → (bytes_of (words_of n bytes) ≡ take (4 * n) bytes) × AreWords (words_of n bytes)
+    → (bytes_of (whole_words n bytes) ≡ take (4 * n) bytes) × AreWords (whole_words n bytes)
 words_are zero bytes long h = (let e : 0 ≡ 4 * 0 = omega arith in ap (λ (k : ℕ). take k bytes) e, tt)
 words_are (suc n) bytes long h =
     let first = first_word bytes (omega (arith, long)) h in
     let left = length-drop 4 bytes in
     let others = words_are n (drop 4 bytes) (omega (arith, long, left)) (bytes_dropped 4 bytes h) in
     let all : 4 + 4 * n ≡ 4 * suc n = omega arith in (
-      ap (λ (xs : List ℕ). xs ++ bytes_of (words_of n (drop 4 bytes))) first.back
+      ap (λ (xs : List ℕ). xs ++ bytes_of (whole_words n (drop 4 bytes))) first.back
           ∙ ap (λ (xs : List ℕ). take 4 bytes ++ xs) others.0
           ∙ sym (take-add 4 (4 * n) bytes)
           ∙ ap (λ (k : ℕ). take k bytes) all,
@@ -244,13 +244,13 @@ told_words Named number at bytes small some = by (words_here most_in_line at byt
     by : (n : ℕ) → 0 < n → 4 * n ≤ length bytes → ItemTold Named number at bytes (Words n)
     by zero more long = absurd (omega (arith, more))
     by (suc n) more long =
-        let ws : List ℕ = words_of (suc n) bytes in
+        let ws : List ℕ = whole_words (suc n) bytes in
         let are = words_are (suc n) bytes long small in
         let x : Statement = unlabelled number (body.Word (map (λ w. Number w) ws)) in
         record {
           statement = x;
           said = spoken number _ (body.Word (map (λ w. Number w) ws))
-              (said_words number (from_be_bytes w32 (take 4 bytes)) (words_of n (drop 4 bytes)) are.1);
+              (said_words number (from_be_bytes w32 (take 4 bytes)) (whole_words n (drop 4 bytes)) are.1);
           gives = subst (Gives Named at x) are.0 (gives_words Named number at ws (words_aligned at bytes some));
           unnamed = refl;
         }

@@ -16,7 +16,7 @@ use Rattle.m88_codec.proofs.Laws.{one_reading}
 use Rattle.m88_isa.proofs.Laws.{word_small}
 use Rattle.m88_isa.specs.Word.{IsWord}
 use Rattle.m88_isa.specs.declared.instr.Instr.{Instr}
-use Rattle.m88_sourcing.specs.Code.{InCode, IsWordAt}
+use Rattle.m88_sourcing.specs.Code.{InCode, HoldsInstruction}
 use Rattle.m88_sourcing.specs.Data.{AreDataLines}
 use Rattle.m88_sourcing.specs.Data.AreDataLines.{no_line, item}
 use Rattle.m88_sourcing.specs.Labels.{code_text}
@@ -37,7 +37,7 @@ same_bytes a b first second same =
 word_below : (i : Instr) (v : ℕ) → IsWord i v → v < 2 ^ 32
 word_below i v is = subst (λ (w : ℕ). w < 2 ^ 32) is.1 (word_small i is.0)
 
-pub same_instruction : (image : ProgramImage) (a : ℕ) (i j : Instr) → IsWordAt image a i → IsWordAt image a j → i ≡ j
+pub same_instruction : (image : ProgramImage) (a : ℕ) (i j : Instr) → HoldsInstruction image a i → HoldsInstruction image a j → i ≡ j
 same_instruction image a i j s t =
     let v : ℕ = s.0.1.0 in
     let w : ℕ = t.0.1.0 in

@@ -25,7 +25,7 @@ use Rattle.m88_disasm.proofs.Laws.{AreOnce, ArePieces, HasName, IsNew, IsWritten
 use Rattle.m88_isa.specs.declared.instr.Instr.{Instr}
 use Rattle.m88_parse.specs.Language.Units.{IsUnit}
 use Rattle.m88_sourcing.specs.Flow.{branch_target}
-use Rattle.m88_sourcing.specs.Code.{InCode, IsCode, IsWordAt}
+use Rattle.m88_sourcing.specs.Code.{InCode, IsCode, HoldsInstruction}
 use Rattle.m88_sourcing.specs.Labels.{HasLabel, IsTarget, label_of}
 use Rattle.m88_sourcing.specs.Source.{AreFar, AreSourceLines, IsSource, LineWhere, far_line}
 use Rattle.m88_sourcing.specs.Source.LineWhere.{so, not_so}
@@ -310,7 +310,7 @@ pub record IsMade (image : ProgramImage) (entries text : List ℕ) : Type 0 wher
   pub written : IsWritten (named image entries) image.start runs sets statements
   pub is_unit : IsUnit text (unit_of (sets ++ statements))
   pub same : (a : ℕ) → byte_among runs a ≡ byte_at image a
-  pub branches : (a : ℕ) → IsCode image entries a → (i : Instr) (t : ℕ) → IsWordAt image a i → branch_target a i ≡ Some t
+  pub branches : (a : ℕ) → IsCode image entries a → (i : Instr) (t : ℕ) → HoldsInstruction image a i → branch_target a i ≡ Some t
       → HasAt (IsBranchTo a i t) 0 statements
 
 sets_behind : (image : ProgramImage) (entries : List ℕ) (xs ys : List Statement) → Sets (named image entries) xs

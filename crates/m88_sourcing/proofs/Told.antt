@@ -23,7 +23,7 @@ use Rattle.m88_parse.specs.declared.unit.Body.TheVariants as body
 use Rattle.m88_parse.specs.declared.unit.Statement.{Statement}
 use Rattle.m88_disasm.specs.Read.{said_body, unlabelled}
 use Rattle.m88_disasm.proofs.Laws.{AreBytes, AreOnce, Data, Gives, HasName, Names, SpokenAs, condition_part, data_behind, gives_instr, more_data, names_in, names_of, no_data, said_instr, spoken, start_symbol, stated_behind}
-use Rattle.m88_sourcing.specs.Code.{InCode, IsCode, IsWordAt}
+use Rattle.m88_sourcing.specs.Code.{InCode, IsCode, HoldsInstruction}
 use Rattle.m88_sourcing.specs.Flow.{branch_target}
 use Rattle.m88_sourcing.specs.Labels.{HasLabel, IsTarget, code_text, label_line, label_of}
 use Rattle.m88_sourcing.specs.Targets.{counting}
@@ -144,7 +144,7 @@ those_none image entries =
 -- statements from an address on have the branch at each address of a kind
 abbrev pub HasBranches : ProgramImage → List ℕ → (ℕ → Type 0) → ℕ → List Statement → Type 0
 HasBranches image entries Word at xs =
-    (a : ℕ) → Word a → IsCode image entries a → (i : Instr) (t : ℕ) → IsWordAt image a i → branch_target a i ≡ Some t
+    (a : ℕ) → Word a → IsCode image entries a → (i : Instr) (t : ℕ) → HoldsInstruction image a i → branch_target a i ≡ Some t
     → HasAt (IsBranchTo a i t) at xs
 
 -- lines as statements that give bytes, with the labels and the mark of the start that stand at addresses of a kind, and
@@ -439,7 +439,7 @@ some_same xs ys e = cc
 
 -- the bytes of an instruction that stands there
 four_are : (image : ProgramImage) (at : ℕ) (bytes : List ℕ) (i : Instr) → 4 ≤ length bytes → HasBytes image at bytes
-    → IsWordAt image at i → to_be_bytes w32 (word_of i) ≡ take 4 bytes
+    → HoldsInstruction image at i → to_be_bytes w32 (word_of i) ≡ take 4 bytes
 four_are image at (a ∷ b ∷ c ∷ d ∷ bytes) i long has stands =
     let zero_th : byte_at image at ≡ Some a =
     ap (byte_at image) (let e : at ≡ at + 0 = omega arith in e) ∙ has 0 (omega arith) in
@@ -523,7 +523,7 @@ told_code image entries number at (suc n) bytes _ whole low size has are
     instruction.line
     (λ a same is k t stands_there e.
     let again : i ≡ k =
-    same_instruction image at i k stands (subst (λ (b : ℕ). IsWordAt image b k) same stands_there) in
+    same_instruction image at i k stands (subst (λ (b : ℕ). HoldsInstruction image b k) same stands_there) in
     let to : branch_target at i ≡ Some t = ap (branch_target at) again ∙ subst (λ (b : ℕ). branch_target b k ≡ Some t) same e in
     subst (λ (b : ℕ). HasAt (IsBranchTo b k t) at instruction.line.listed.statements) (sym same)
     (subst (λ (l : Instr). HasAt (IsBranchTo at l t) at instruction.line.listed.statements) again

@@ -5,11 +5,11 @@ use Rattle.std.specs.Int.{from_be_bytes, w32}
 use Rattle.std.proofs.lemmas.List.{drop-drop}
 use Rattle.m88_base.specs.Lines.{line_end}
 use Rattle.m88_disasm.specs.Text.{hexadecimal}
-use Rattle.m88_sourcing.specs.Data.{words_of, words_line}
+use Rattle.m88_sourcing.specs.Data.{whole_words, words_line}
 
 -- further words
 abbrev pub further : ℕ → List ℕ → List ℕ
-further n bytes = flat_map (λ operand. codes "," ++ operand) (map hexadecimal (words_of n bytes))
+further n bytes = flat_map (λ operand. codes "," ++ operand) (map hexadecimal (whole_words n bytes))
 
 -- a word behind a byte
 abbrev word_behind : ℕ → List ℕ → List ℕ

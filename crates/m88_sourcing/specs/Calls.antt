@@ -18,5 +18,5 @@ pub record IsSourced (words : List (List ℕ)) (before after : Option (List ℕ)
   pub written : SinkIsGiven text
 
 -- what is left to read is the input, and not too long
-abbrev pub IsLeft : Option (List ℕ) → List ℕ → Type 0
-IsLeft left input = (left ≡ Some input) × (length input ≤ most_input)
+abbrev pub IsInputLeft : Option (List ℕ) → List ℕ → Type 0
+IsInputLeft left input = (left ≡ Some input) × (length input ≤ most_input)

@@ -7,32 +7,32 @@ use Rattle.m88_isa.specs.Address.{after_bytes, word_address}
 use Rattle.m88_isa.specs.ImageProgram.{HasWordOf}
 use Rattle.m88_isa.specs.Word.{word_of}
 use Rattle.m88_isa.specs.declared.instr.Instr.{Instr}
-use Rattle.m88_sourcing.specs.Flow.{asks_for_end, next_of, calls_monitor, slot, branch_target}
+use Rattle.m88_sourcing.specs.Flow.{asks_for_end, goes_on_to, calls_monitor, slot, branch_target}
 
 -- an instruction stands at an address: its word, which isn't 0, at a multiple of 4
-abbrev pub IsWordAt : ProgramImage → ℕ → Instr → Type 0
-IsWordAt image a i = HasWordOf (byte_at image) a i × (word_of i ≢ 0)
+abbrev pub HoldsInstruction : ProgramImage → ℕ → Instr → Type 0
+HoldsInstruction image a i = HasWordOf (byte_at image) a i × (word_of i ≢ 0)
 
 -- some instruction stands there
 abbrev pub HasInstruction : ProgramImage → ℕ → Type 0
-HasInstruction image a = (i : Instr) × IsWordAt image a i
+HasInstruction image a = (i : Instr) × HoldsInstruction image a i
 
 -- an instruction leads to an address: it is the one behind it, or its target
 abbrev pub GoesTo : ℕ → Instr → ℕ → Type 0
-GoesTo a i b = (next_of a i ≡ Some b) ⊎ (branch_target a i ≡ Some b)
+GoesTo a i b = (goes_on_to a i ≡ Some b) ⊎ (branch_target a i ≡ Some b)
 
 -- the program ends at an address: it calls the monitor, right behind the word that asks for the end
 pub record IsExit (image : ProgramImage) (a : ℕ) : Type 0 where
   pub call : Instr
   pub ask : Instr
-  pub stands : IsWordAt image a call
-  pub before : IsWordAt image (after_bytes a (2 ^ 32 - 4)) ask
+  pub stands : HoldsInstruction image a call
+  pub before : HoldsInstruction image (after_bytes a (2 ^ 32 - 4)) ask
   pub calls : calls_monitor call ≡ true
   pub asks : asks_for_end ask ≡ true
 
 -- an instruction stands at an address to which the one at another leads, which doesn't end the program
 abbrev pub IsReachedFrom : ProgramImage → ℕ → ℕ → Type 0
-IsReachedFrom image a b = (i : Instr) × IsWordAt image a i × ¬ IsExit image a × GoesTo a i b × HasInstruction image b
+IsReachedFrom image a b = (i : Instr) × HoldsInstruction image a i × ¬ IsExit image a × GoesTo a i b × HasInstruction image b
 
 -- the addresses that are reached, where code begins at these
 pub data IsReached (image : ProgramImage) (seeds : List ℕ) : ℕ → Type 0 where
@@ -45,7 +45,7 @@ seeds_of image entries = word_address image.start ∷ map word_address entries
 
 -- an instruction stands in the delay slot of the one at another address
 abbrev pub IsSlotOf : ProgramImage → ℕ → ℕ → Type 0
-IsSlotOf image a b = (i : Instr) × IsWordAt image a i × (slot a i ≡ Some b) × HasInstruction image b
+IsSlotOf image a b = (i : Instr) × HoldsInstruction image a i × (slot a i ≡ Some b) × HasInstruction image b
 
 -- the addresses of the words that are code: those that are reached, and the delay slots of branches and jumps that are;
 -- a slot is led to by its own branch alone, and leads nowhere as a slot

@@ -88,13 +88,13 @@ abbrev pub text_line : List ℕ → List ℕ
 text_line bytes = codes ".ascii \"" ++ flat_map in_text bytes ++ codes "\""
 
 -- the first n words of some bytes
-abbrev pub words_of : ℕ → List ℕ → List ℕ
-words_of zero bytes = []
-words_of (suc n) bytes = from_be_bytes w32 (take 4 bytes) ∷ words_of n (drop 4 bytes)
+abbrev pub whole_words : ℕ → List ℕ → List ℕ
+whole_words zero bytes = []
+whole_words (suc n) bytes = from_be_bytes w32 (take 4 bytes) ∷ whole_words n (drop 4 bytes)
 
 -- their line
 abbrev pub words_line : ℕ → List ℕ → List ℕ
-words_line n bytes = spelled (codes ".word") (map hexadecimal (words_of n bytes))
+words_line n bytes = spelled (codes ".word") (map hexadecimal (whole_words n bytes))
 
 -- the line of what stands first
 abbrev pub item_line : List ℕ → Item → List ℕ

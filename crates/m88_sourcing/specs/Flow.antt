@@ -10,13 +10,13 @@ use Rattle.m88_isa.specs.declared.instr.Instr.TheVariants as instr
 
 -- where the program goes on behind an instruction, or comes back to: behind a call and its slot; nowhere behind a branch
 -- or jump that is always taken, or behind a return from an exception
-abbrev pub next_of : ℕ → Instr → Option ℕ
-next_of pc (instr.Branch false delayed words) = None
-next_of pc (instr.Branch true delayed words) = Some (after_bytes pc (if delayed then 8 else 4))
-next_of pc (instr.Jump false delayed s2) = None
-next_of pc (instr.Jump true delayed s2) = Some (after_bytes pc (if delayed then 8 else 4))
-next_of pc instr.Rte = None
-next_of pc i = Some (after_bytes pc 4)
+abbrev pub goes_on_to : ℕ → Instr → Option ℕ
+goes_on_to pc (instr.Branch false delayed words) = None
+goes_on_to pc (instr.Branch true delayed words) = Some (after_bytes pc (if delayed then 8 else 4))
+goes_on_to pc (instr.Jump false delayed s2) = None
+goes_on_to pc (instr.Jump true delayed s2) = Some (after_bytes pc (if delayed then 8 else 4))
+goes_on_to pc instr.Rte = None
+goes_on_to pc i = Some (after_bytes pc 4)
 
 -- the target of a branch, which its word names
 abbrev pub branch_target : ℕ → Instr → Option ℕ

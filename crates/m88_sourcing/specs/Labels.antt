@@ -7,7 +7,7 @@ use Rattle.m88_isa.specs.declared.instr.Instr.{Instr}
 use Rattle.m88_isa.specs.declared.instr.Instr.TheVariants as instr
 use Rattle.m88_isa.specs.Names.{branch_bit_name, branch_cond_name, branch_name}
 use Rattle.m88_disasm.specs.Text.{condition, instr_text, register_name, spelled}
-use Rattle.m88_sourcing.specs.Code.{IsCode, IsWordAt}
+use Rattle.m88_sourcing.specs.Code.{IsCode, HoldsInstruction}
 use Rattle.m88_sourcing.specs.Flow.{branch_target}
 
 -- the name of an address: L and its eight digits
@@ -20,7 +20,7 @@ label_line name = name ++ codes ":"
 
 -- the instruction at an address branches to another
 abbrev pub BranchesTo : ProgramImage → ℕ → ℕ → Type 0
-BranchesTo image a t = (i : Instr) × IsWordAt image a i × (branch_target a i ≡ Some t)
+BranchesTo image a t = (i : Instr) × HoldsInstruction image a i × (branch_target a i ≡ Some t)
 
 -- a word that is code branches to an address
 abbrev pub IsTarget : ProgramImage → List ℕ → ℕ → Type 0

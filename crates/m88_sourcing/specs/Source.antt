@@ -9,7 +9,7 @@ use Rattle.m88_base.specs.Placed.{Placed}
 use Rattle.m88_isa.specs.declared.instr.Instr.{Instr}
 use Rattle.m88_disasm.specs.Listing.{place_line, start_line}
 use Rattle.m88_disasm.specs.Text.{hexadecimal}
-use Rattle.m88_sourcing.specs.Code.{InCode, IsCode, IsWordAt}
+use Rattle.m88_sourcing.specs.Code.{InCode, IsCode, HoldsInstruction}
 use Rattle.m88_sourcing.specs.Data.{AreDataLines}
 use Rattle.m88_sourcing.specs.Labels.{HasLabel, IsTarget, code_text, label_line, label_of}
 
@@ -47,7 +47,7 @@ IsStartMarked image a = LineWhere (a ≡ image.start) (label_line (codes "_start
 pub data AreCodeLines (put : ℕ → List (List ℕ)) (image : ProgramImage) (entries : List ℕ)
     : ℕ → ℕ → List (List ℕ) → Type 0 where
   no_word : {at : ℕ} → AreCodeLines put image entries at zero []
-  word : {at n : ℕ} {label start lines : List (List ℕ)} (i : Instr) → IsWordAt image at i
+  word : {at n : ℕ} {label start lines : List (List ℕ)} (i : Instr) → HoldsInstruction image at i
       → IsLabelled image entries at label → IsStartMarked image at start
       → AreCodeLines put image entries (at + 4) n lines
       → AreCodeLines put image entries at (suc n) (label ++ (start ++ code_text at i ∷ (put at ++ lines)))

@@ -12,7 +12,7 @@ use Rattle.m88_link.specs.Symbols.{symbol_meaning}
 use Rattle.m88_asm.specs.Counters.{Located}
 use Rattle.m88_asm.specs.Objects.{lines_in, symbols_in}
 use Rattle.m88_asm.specs.Units.{address_in, base_in, based, unit_layout}
-use Rattle.m88_sourcing.specs.Code.{IsCode, IsWordAt}
+use Rattle.m88_sourcing.specs.Code.{IsCode, HoldsInstruction}
 use Rattle.m88_sourcing.specs.Flow.{branch_target}
 use Rattle.m88_sourcing.specs.Labels.{label_of}
 
@@ -44,5 +44,5 @@ pub record NamesTarget (unit : Source) (a : ℕ) (i : Instr) (t : ℕ) : Type 0 
 -- so it is with every branch that is code
 abbrev pub NamesItsTargets : ProgramImage → List ℕ → Source → Type 0
 NamesItsTargets image entries unit =
-    (a : ℕ) (i : Instr) (t : ℕ) → IsCode image entries a → IsWordAt image a i → branch_target a i ≡ Some t
+    (a : ℕ) (i : Instr) (t : ℕ) → IsCode image entries a → HoldsInstruction image a i → branch_target a i ≡ Some t
     → NamesTarget unit a i t

@@ -1,7 +1,7 @@
 //! Where an instruction leads, without a look at registers.
 ghost use Rattle.std.specs.Prelude.{◌≡◌};
 ghost use Rattle.m88_isa.specs.Flow.{words_away};
-ghost use Rattle.m88_sourcing.specs.Flow.{asks_for_end, next_of, calls_monitor, slot, branch_target};
+ghost use Rattle.m88_sourcing.specs.Flow.{asks_for_end, goes_on_to, calls_monitor, slot, branch_target};
 
 use m88_isa::{ImmOp, Instr};
 
@@ -21,8 +21,8 @@ fn words_away(pc: u32, words: i32) -> u32
 }
 
 /// Where the program goes on behind an instruction, or comes back to.
-pub(crate) fn next_of(pc: u32, instr: &Instr) -> Option<u32>
-    ensures { result ≡ next_of pc instr.now }
+pub(crate) fn goes_on_to(pc: u32, instr: &Instr) -> Option<u32>
+    ensures { result ≡ goes_on_to pc instr.now }
 {
     match *instr {
         Instr::Branch { link: false, .. } | Instr::Jump { link: false, .. } | Instr::Rte => None,

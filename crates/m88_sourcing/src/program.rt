@@ -9,7 +9,7 @@ ghost use Rattle.m88_base.specs.Reading.{ReadsSource, most_input};
 ghost use Rattle.m88_base.specs.Refusal.{Refusal, refusal_line};
 ghost use Rattle.m88_base.specs.Status.{Answers, IsAnswered, IsOfReading, WritesNothing};
 ghost use Rattle.m88_sourcing.specs.Answer.{Sources, SourcesAccepted, SourcesRefused};
-ghost use Rattle.m88_sourcing.specs.Calls.{IsLeft, IsSourced};
+ghost use Rattle.m88_sourcing.specs.Calls.{IsInputLeft, IsSourced};
 ghost use Rattle.m88_sourcing.specs.Inputs.{IsAcceptedIn, IsRefusedIn};
 ghost use Rattle.m88_sourcing.specs.Inside.Asked.{asked};
 ghost use Rattle.m88_sourcing.specs.Inside.Replies.{IsInputRead, SourcesAs};
@@ -83,7 +83,7 @@ pub fn m88source<S: Source, K: Sink>(
     // Where the words ask for something and nothing failed, an input that is not too long is answered: Done if
     // it is accepted, Refused if it is not, or Memory.
     ensures complete { (request : Asked) (bytes : List ℕ) → Asks (words_of_call words.now) request
-        → IsLeft (S.left source.old) bytes
+        → IsInputLeft (S.left source.old) bytes
         → ¬ Rose (S.faults source.old) (S.faults source.new)
         → ¬ Rose (K.faults sink.old) (K.faults sink.new)
         → Answers (IsAcceptedIn request.at bytes) result }

@@ -3,7 +3,7 @@ ghost use Rattle.std.specs.Prelude.{◌≡◌, ◌≤◌, ◌<◌, ◌⊎◌, �
 ghost use Rattle.indexmap.specs.IndexSet.{contains};
 ghost use Rattle.m88_sourcing.specs.Code.{HasInstruction, IsCode, IsReachedFrom, IsReached, IsSlotOf, seeds_of};
 
-use crate::flow::{branch_target, next_of, slot};
+use crate::flow::{branch_target, goes_on_to, slot};
 use crate::standing::{is_exit, standing};
 use indexmap::IndexSet;
 use m88_base::Image;
@@ -60,7 +60,7 @@ fn lead(found: &mut IndexSet<u32>, image: &Image, at: u32) -> Result<(), AllocEr
             if is_exit(image, at, &instr) {
                 return Ok(());
             }
-            visit_if(found, image, next_of(at, &instr))?;
+            visit_if(found, image, goes_on_to(at, &instr))?;
             visit_if(found, image, branch_target(at, &instr))?;
             Ok(())
         }

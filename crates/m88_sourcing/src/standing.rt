@@ -5,7 +5,7 @@ ghost use Rattle.std.specs.Int.{to_be_bytes, w32};
 ghost use Rattle.m88_base.specs.Image.{byte_at};
 ghost use Rattle.m88_isa.specs.Machine.{four_bytes};
 ghost use Rattle.m88_isa.specs.declared.instr.Instr.{Instr as Instruction};
-ghost use Rattle.m88_sourcing.specs.Code.{IsExit, IsWordAt};
+ghost use Rattle.m88_sourcing.specs.Code.{IsExit, HoldsInstruction};
 
 use crate::flow::{asks_for_end, calls_monitor};
 use byteorder::{BigEndian, ByteOrder};
@@ -27,8 +27,8 @@ fn fetched(image: &Image, at: u32) -> Option<u32>
 
 /// The instruction that stands at an address, whose word isn't 0.
 pub(crate) fn standing(image: &Image, at: u32) -> Option<Instr>
-    ensures some { IfSome result (λ i. IsWordAt image.now at i) }
-    ensures only { (i : Instruction) → IsWordAt image.now at i → result ≡ Some i }
+    ensures some { IfSome result (λ i. HoldsInstruction image.now at i) }
+    ensures only { (i : Instruction) → HoldsInstruction image.now at i → result ≡ Some i }
 {
     if !at.is_multiple_of(4) {
         return None;
@@ -42,7 +42,7 @@ pub(crate) fn standing(image: &Image, at: u32) -> Option<Instr>
 
 /// Whether the program ends at an address with this instruction.
 pub(crate) fn is_exit(image: &Image, at: u32, instr: &Instr) -> bool
-    requires { IsWordAt image.now at instr.now }
+    requires { HoldsInstruction image.now at instr.now }
     ensures { IsTrue result ↔ IsExit image.now at }
 {
     match standing(image, at.wrapping_sub(4)) {

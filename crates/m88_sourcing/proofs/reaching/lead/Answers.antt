@@ -2,7 +2,7 @@
 use Rattle.std.proofs.Common.{◌≡◌, inl, inr, Some, sym, ap, ◌∙◌, true≢false}
 use Rattle.m88_isa.specs.declared.instr.Instr.{Instr as Instruction}
 use Rattle.m88_sourcing.specs.Code.{IsExit}
-use Rattle.m88_sourcing.specs.Flow.{branch_target, next_of}
+use Rattle.m88_sourcing.specs.Flow.{branch_target, goes_on_to}
 use Rattle.m88_sourcing.proofs.reaching.lead.Goals as goal
 
 pub returns-in_ok-visit_if-in-Some-2-clause-has : goal.returns-in_ok-visit_if-in-Some-2-clause-has
@@ -14,7 +14,7 @@ returns-in_ok-visit_if-in-Some-2-clause-has c = λ b led.
       | inl h ↦
           c.in_ok-visit_if-in-Some-2.ensures.keeps b
           (c.in_ok-visit_if-in-Some.ensures.has b
-          (c.next_of.ensures ∙ ap (λ (k : Instruction). next_of c.args.at k) same ∙ h) led.4)
+          (c.goes_on_to.ensures ∙ ap (λ (k : Instruction). goes_on_to c.args.at k) same ∙ h) led.4)
       | inr h ↦
           c.in_ok-visit_if-in-Some-2.ensures.has b
           (c.branch_target.ensures ∙ ap (λ (k : Instruction). branch_target c.args.at k) same ∙ h) led.4
@@ -29,7 +29,7 @@ returns-in_ok-visit_if-in-Some-2-clause-only c = λ b member.
           elim (c.in_ok-visit_if-in-Some.ensures.only b before) [
             | inl old ↦ inl old
             | inr new ↦
-                inr (c.in-Some.instr, c.in-Some.ensures.some, goes_on, inl (sym c.next_of.ensures ∙ new.0), new.1)
+                inr (c.in-Some.instr, c.in-Some.ensures.some, goes_on, inl (sym c.goes_on_to.ensures ∙ new.0), new.1)
           ]
       | inr new ↦
           inr (c.in-Some.instr, c.in-Some.ensures.some, goes_on, inr (sym c.branch_target.ensures ∙ new.0), new.1)
