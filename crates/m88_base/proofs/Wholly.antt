@@ -1,6 +1,6 @@
 -- Where a text stands whole behind what a sink held, it was written whole; a source that has nothing left gave all; and
 -- how a program ends that wrote.
-use Rattle.std.proofs.Common.{◌≡◌, ℕ, ◌<◌, ◌≤◌, ◌+◌, List, [], Option, Some, None, inl, inr, length, length-append, take, ap, refl, sym, ◌∙◌, subst, arith}
+use Rattle.std.proofs.Common.{◌≡◌, ℕ, ◌<◌, ◌+◌, List, [], Option, Some, None, inl, inr, length, length-append, take, ap, refl, sym, ◌∙◌, subst, arith}
 use Rattle.std.specs.Io.KnownBytes.{Consumes}
 use Rattle.std.proofs.lemmas.List.{append-nil, length-take-le}
 use Rattle.m88_base.specs.Outside.{AppendsPart, IsWhole}

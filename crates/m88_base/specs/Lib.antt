@@ -18,6 +18,7 @@ pub mod Calls
 pub mod Outside
 pub mod Reading
 pub mod Status
+pub mod Filter
 pub mod Reply
 pub mod OneVerdict
 pub mod Memory

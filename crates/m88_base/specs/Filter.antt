@@ -1,0 +1,57 @@
+-- What a filter does, a program between a source and a sink. Of a source or a sink that doesn't tell its bytes or its
+-- calls, nothing is said of these.
+use Rattle.std.specs.Prelude.{ℕ, ◌≡◌, ◌≢◌, ◌+◌, ◌≤◌, List, Option, Some, length}
+use Rattle.std.specs.Io.KnownBytes.{Appends}
+use Rattle.m88_base.specs.Calls.{CallsWithin}
+use Rattle.m88_base.specs.Causes.{Rose}
+use Rattle.m88_base.specs.Outside.{AppendsPart, GivesAll, TakesAtMost, TakesExactly}
+use Rattle.m88_base.specs.Reading.{most_input}
+use Rattle.m88_base.specs.Status.{IsAnswered, WritesNothing}
+use Rattle.m88_base.specs.declared.status.Status.{Status}
+use Rattle.m88_base.specs.declared.status.Status.TheVariants.{SourceFault, SinkFault, TooLong}
+
+-- what it does to its source, where it ends with this status
+pub record ReadsFor {S : Type 0} (left : S → Option (List ℕ)) (calls : S → Option ℕ) (faults : S → ℕ) (old new : S)
+    (status : Status) : Type 0 where
+  -- it makes at most two calls more than an input may have bytes
+  pub reads : CallsWithin (most_input + 2) (calls old) (calls new)
+  -- the source failed
+  pub source_fault : status ≡ SourceFault → Rose (faults old) (faults new)
+  -- the source has a byte too many: exactly then one more is taken than an input may have
+  pub too_long : status ≡ TooLong → TakesExactly (left old) (left new) (most_input + 1)
+  pub not_too_long : status ≢ TooLong → TakesAtMost (left old) (left new) most_input
+  -- the input was answered, and no failure is passed over
+  pub unfailed : IsAnswered status → faults new ≡ faults old
+
+-- what it does to its sink, where it ends with this status
+pub record WritesFor {K : Type 0} (faults : K → ℕ) (old new : K) (status : Status) : Type 0 where
+  -- the sink failed
+  pub sink_fault : status ≡ SinkFault → Rose (faults old) (faults new)
+  -- the input was answered, and no failure is passed over
+  pub unfailed : IsAnswered status → faults new ≡ faults old
+  -- there is no text: nothing is written
+  pub unwritten : WritesNothing status → new ≡ old
+
+-- the sink was given the whole text behind what it held, by no more calls than the text has bytes
+abbrev pub WritesText : {K : Type 0} → (K → Option (List ℕ)) → (K → Option ℕ) → K → K → List ℕ → Type 0
+WritesText held calls old new text =
+    Appends (held old) (held new) text × CallsWithin (length text) (calls old) (calls new)
+
+-- it was given a front of the text that lacks at least one byte, by no more calls than the text has bytes
+abbrev pub WritesPart : {K : Type 0} → (K → Option (List ℕ)) → (K → Option ℕ) → K → K → List ℕ → Type 0
+WritesPart held calls old new text =
+    AppendsPart (held old) (held new) text × CallsWithin (length text) (calls old) (calls new)
+
+-- what the source has left is the input, and not too long
+abbrev pub IsInputLeft : Option (List ℕ) → List ℕ → Type 0
+IsInputLeft left input = (left ≡ Some input) × (length input ≤ most_input)
+
+-- an input was answered: the source gave all that it had, the text is as told for it, and the sink was given the text
+-- as told
+pub record AnswersInput (before after : Option (List ℕ)) (IsText : List ℕ → List ℕ → Type 0)
+    (SinkIsGiven : List ℕ → Type 0) : Type 0 where
+  pub input : List ℕ
+  pub given : GivesAll before after input
+  pub text : List ℕ
+  pub is_text : IsText input text
+  pub written : SinkIsGiven text
