@@ -3,6 +3,9 @@
 use m88_base::{Failed, Sink, Source};
 use std::alloc::Global;
 
+/// How many bytes of what is written are remembered, more than a line that refuses has.
+const FRONT: usize = 512;
+
 /// A source that remembers the bytes that it gave, where that is wanted and as long as there is memory for them.
 #[derive(Drop)]
 pub struct Keeping<S> {
@@ -48,16 +51,14 @@ impl<S: Source> Source for Keeping<S> {
 #[derive(Drop)]
 pub struct Showing<K> {
     inner: K,
-    most: usize,
     front: Option<Vec<u8>>,
 }
 
 impl<K: Sink> Showing<K> {
-    /// A sink that hands its bytes to another, and remembers so many of them.
-    pub fn new(alloc: Global, inner: K, most: usize) -> Showing<K> {
+    /// A sink that hands its bytes to another.
+    pub fn new(alloc: Global, inner: K) -> Showing<K> {
         Showing {
             inner,
-            most,
             front: Some(Vec::new(alloc)),
         }
     }
@@ -80,8 +81,8 @@ impl<K: Sink> Sink for Showing<K> {
 
     fn write(&mut self, buf: &[u8]) -> Result<usize, Failed> {
         let count = self.inner.write(buf)?;
-        if self.front().map_or(0, |front| front.len()) < self.most {
-            keep(&mut self.front, &buf[..count.min(self.most)]);
+        if self.front().map_or(0, |front| front.len()) < FRONT {
+            keep(&mut self.front, &buf[..count.min(FRONT)]);
         }
         Ok(count)
     }

@@ -7,41 +7,37 @@ mod finding;
 mod tests;
 
 use crate::finding::Finding;
-use m88_base::{MOST_INPUT, Status, StdSink, StdSource};
-use m88_edge::Refused;
+use m88_base::{Status, StdSink, StdSource};
+use m88_edge::{Filter, Refused, run};
 use m88_listing::m88list;
-use std::env;
 use std::process::ExitCode;
 
 /// The version of this program, which manual page and changelog tell too.
 const VERSION: &str = "1.0.0";
 
-/// The exit status where the words can't be had, which the top call never answers.
-const NO_WORDS_STATUS: u8 = 7;
+/// The program.
+struct M88List;
 
-fn main(rt: HostRuntime) -> ExitCode {
-    let Ok(arguments) = env::args(&rt) else {
-        let _ = eprintln!(rt; "m88list: the words can't be read");
-        return ExitCode::from(NO_WORDS_STATUS);
-    };
-    let status = match arguments.skip(1).collect::<Vec<String>>(rt.alloc()) {
-        Ok(words) => carry_out(&rt, words.as_slice()),
-        Err(_) => Status::Memory,
-    };
-    tell(&rt, status);
-    ExitCode::from(status.number())
+impl Filter for M88List {
+    fn name(&self) -> &'static str {
+        "m88list"
+    }
+
+    fn answer(&self, rt: &HostRuntime, words: &[String]) -> Status {
+        let mut source = StdSource::new(rt.reader());
+        let mut sink = Finding::new(rt.alloc(), StdSink::new(rt.stdout()));
+        let status = m88list(rt.alloc(), words, &mut source, &mut sink);
+        match status {
+            Status::Usage => tell_usage(rt),
+            Status::Refused => tell_refusal(rt, sink.refusal(), sink.source()),
+            _ => {}
+        }
+        status
+    }
 }
 
-/// The answer of the top call between standard input and standard output. Standard error tells a person where a source
-/// is refused, since the listing may go to a file.
-fn carry_out(rt: &HostRuntime, words: &[String]) -> Status {
-    let mut source = StdSource::new(rt.reader());
-    let mut sink = Finding::new(rt.alloc(), StdSink::new(rt.stdout()));
-    let status = m88list(rt.alloc(), words, &mut source, &mut sink);
-    if status == Status::Refused {
-        tell_refusal(rt, sink.refusal(), sink.source());
-    }
-    status
+fn main(rt: HostRuntime) -> ExitCode {
+    run(&rt, &M88List)
 }
 
 /// Tells where and why a source is refused, by the line of its listing that says so, and shows the line of the source.
@@ -53,16 +49,9 @@ fn tell_refusal<'a>(rt: &HostRuntime, refusal: Option<&'a [u8]>, source: Option<
     };
 }
 
-/// Tells a person what an answer means.
-fn tell(rt: &HostRuntime, status: Status) {
-    let _ = match status {
-        Status::Done | Status::Refused => Ok(()),
-        Status::Usage => eprintln!(rt;
-            "m88list {VERSION}: it takes no words and opens no file\nusage: m88list < SOURCE > LISTING"
-        ),
-        Status::SourceFault => eprintln!(rt; "m88list: standard input can't be read"),
-        Status::SinkFault => eprintln!(rt; "m88list: standard output can't be written"),
-        Status::Memory => eprintln!(rt; "m88list: there is not enough memory"),
-        Status::TooLong => { eprintln!(rt; "m88list: the source has more than {MOST_INPUT} bytes") }
-    };
+/// Tells a person that there are no words.
+fn tell_usage(rt: &HostRuntime) {
+    let _ = eprintln!(rt;
+        "m88list {VERSION}: it takes no words and opens no file\nusage: m88list < SOURCE > LISTING"
+    );
 }
