@@ -1,9 +1,9 @@
 -- What a call of the program did between its words, its source and its sink. Of a source or sink that doesn't tell its
 -- bytes nothing is said.
-use Rattle.std.specs.Prelude.{ℕ, ◌≡◌, ◌≤◌, List, [], Option, Some, MatchBool, length}
+use Rattle.std.specs.Prelude.{ℕ, ◌≡◌, List, [], Option, MatchBool}
+use Rattle.m88_base.specs.Filter.{IsInputLeft}
 use Rattle.m88_base.specs.Outside.{GivesAll}
 use Rattle.m88_cli.specs.Command.{Command, Spells, reads_input}
-use Rattle.m88_cli.specs.Limits.{most_input}
 
 -- the source, with these bytes left before and those after, gave a command its input: all that it had, to its end; a
 -- command that reads none has the empty input
@@ -37,4 +37,4 @@ pub record Given (words : List (List ℕ)) (before after : Option (List ℕ))
 -- what a source has left is the input for a command, and not too long; a command that reads none has the empty input
 abbrev pub HasInput : Command → Option (List ℕ) → List ℕ → Type 0
 HasInput command left input =
-    MatchBool (reads_input command) ((left ≡ Some input) × (length input ≤ most_input)) (input ≡ [])
+    MatchBool (reads_input command) (IsInputLeft left input) (input ≡ [])

@@ -1,17 +1,15 @@
 //! The top call.
 ghost use Rattle.std.specs.Prelude.{[], ◌≡◌, ◌≢◌, ◌↔◌, ◌⊎◌, ◌+◌, ℕ, List, IfErr, IfOk, OnErr, Some, false, length};
-ghost use Rattle.std.specs.Io.KnownBytes.{Appends};
-ghost use Rattle.m88_base.specs.Calls.{CallsWithin};
 ghost use Rattle.m88_base.specs.Causes.{Rose};
+ghost use Rattle.m88_base.specs.Filter.{ReadsFor, WritesFor, WritesPart, WritesText};
 ghost use Rattle.m88_base.specs.OneVerdict.{HasOneFaultUnless, HasOneVerdict};
-ghost use Rattle.m88_base.specs.Outside.{AppendsPart, IsWhole, TakesAtMost, TakesExactly};
+ghost use Rattle.m88_base.specs.Outside.{IsWhole};
 ghost use Rattle.m88_base.specs.Reading.{ReadsSource};
-ghost use Rattle.m88_base.specs.Status.{Answers, IsAnswered, IsOfReading, WritesNothing};
+ghost use Rattle.m88_base.specs.Status.{Answers, IsOfReading};
 ghost use Rattle.m88_cli.specs.Answer.{Accepts, IsAnswer, IsAnswerToAccepted, IsAnswerToRefused, IsOutput, Refuses};
 ghost use Rattle.m88_cli.specs.Bridge.{AssembledLinksAlike, BuiltRunsAlike, ListedBuildsAlike, TracedIsChecked};
 ghost use Rattle.m88_cli.specs.Calls.{CarriedOut, GivesInput, Given, HasInput};
 ghost use Rattle.m88_cli.specs.Command.{Command as Choice, IsFit, SpellNoReader, SpellNoRun, SpellNothing, Spells, command_of, reads_input, shows_boards};
-ghost use Rattle.m88_cli.specs.Limits.{most_input};
 ghost use Rattle.m88_base.specs.Refusal.{Refusal, refusal_line};
 ghost use Rattle.m88_cli.specs.Inside.Reply.{Replies, WatchesReply};
 ghost use Rattle.m88_cli.specs.Answer.Runs.{WorkloadsAreAccepted};
@@ -42,20 +40,14 @@ pub fn m88<S: Source, K: Sink, W: Watch>(
     ensures usage { (result ≡ Status.Usage) ↔ SpellNothing (texts words.now) }
     ensures unread { SpellNoReader (texts words.now) → source.new ≡ source.old }
 
-    // The calls that are made of a source that tells them: at most two more than an input may have bytes.
-    ensures reads { CallsWithin (most_input + 2) (S.calls source.old) (S.calls source.new) }
-
     // A command that has no input isn't answered by what a source does.
     ensures no_reader { SpellNoReader (texts words.now)
         → (result ≢ Status.SourceFault) × (result ≢ Status.TooLong) }
 
-    // The source failed, or it has a byte too many.
-    ensures source_fault { result ≡ Status.SourceFault
-        → Rose (S.faults source.old) (S.faults source.new) }
-    ensures too_long { result ≡ Status.TooLong
-        → TakesExactly (S.left source.old) (S.left source.new) (most_input + 1) }
-    ensures not_too_long { result ≢ Status.TooLong
-        → TakesAtMost (S.left source.old) (S.left source.new) most_input }
+    // Whatever the answer is: the source is read by few calls, a source or a sink is blamed only for what it did,
+    // no failure is passed over, and without a text nothing is written.
+    ensures reading { ReadsFor S.left S.calls S.faults source.old source.new result }
+    ensures writing { WritesFor K.faults sink.old sink.new result }
 
     // A command was carried out, its input is accepted, the sink was given its text by no more calls than that
     // has bytes, and the watch was shown its boards. For `run` the text is the report of the sequential machine
@@ -63,16 +55,14 @@ pub fn m88<S: Source, K: Sink, W: Watch>(
     // program's own run.
     ensures done { result ≡ Status.Done
         → CarriedOut (texts words.now) (S.left source.old) (S.left source.new) IsAnswerToAccepted
-        (λ text. Appends (K.held sink.old) (K.held sink.new) text
-        × CallsWithin (length text) (K.calls sink.old) (K.calls sink.new))
+        (WritesText K.held K.calls sink.old sink.new)
         (λ command input. Shown command input (W.seen watch.old) (W.seen watch.new)) }
 
     // The input is not accepted, the sink was given the line that says so in the same way, and the watch
     // nothing; an input whose line stands whole in the sink was refused.
     ensures refused { result ≡ Status.Refused
         → CarriedOut (texts words.now) (S.left source.old) (S.left source.new) IsAnswerToRefused
-        (λ text. Appends (K.held sink.old) (K.held sink.new) text
-        × CallsWithin (length text) (K.calls sink.old) (K.calls sink.new))
+        (WritesText K.held K.calls sink.old sink.new)
         (λ _ _. watch.new ≡ watch.old) }
     ensures refusal { (command : Choice) (input : List ℕ) (refusal : Refusal)
         → Spells (texts words.now) command → Refuses command input refusal
@@ -82,17 +72,10 @@ pub fn m88<S: Source, K: Sink, W: Watch>(
 
     // The sink failed, and was given a front of the text that lacks at least one byte, by no more calls than the
     // text has bytes.
-    ensures sink_fault { result ≡ Status.SinkFault
-        → Rose (K.faults sink.old) (K.faults sink.new) }
     ensures part { result ≡ Status.SinkFault
         → CarriedOut (texts words.now) (S.left source.old) (S.left source.new) IsAnswer
-        (λ text. AppendsPart (K.held sink.old) (K.held sink.new) text
-        × CallsWithin (length text) (K.calls sink.old) (K.calls sink.new))
+        (WritesPart K.held K.calls sink.old sink.new)
         (ShownIfAccepted W.seen watch.old watch.new) }
-
-    // With Done and Refused nothing failed: no failure of the source or of the sink is passed over.
-    ensures unfailed { IsAnswered result → (S.faults source.new ≡ S.faults source.old)
-        × (K.faults sink.new ≡ K.faults sink.old) }
 
     // Where nothing failed, an input that is not too long is answered: Done if it is accepted, Refused if
     // it is not, or Memory.
@@ -102,9 +85,8 @@ pub fn m88<S: Source, K: Sink, W: Watch>(
         → ¬ Rose (K.faults sink.old) (K.faults sink.new)
         → Answers (Accepts command input) result }
 
-    // With every other answer nothing is written, and where memory ran out the watch was shown nothing, or a
-    // front of the boards of an input that is accepted.
-    ensures unwritten { WritesNothing result → sink.new ≡ sink.old }
+    // Where memory ran out the watch was shown nothing, or a front of the boards of an input that is accepted;
+    // with every other answer it was shown nothing.
     ensures unshown { ShowsNothing result → watch.new ≡ watch.old }
     ensures unshown_by { SpellNoRun (texts words.now) → watch.new ≡ watch.old }
     ensures front { result ≡ Status.Memory → (watch.new ≡ watch.old)

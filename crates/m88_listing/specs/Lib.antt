@@ -7,6 +7,5 @@ pub mod Listing
 pub mod Settled
 pub mod Refused
 pub mod Answer
-pub mod Calls
 pub mod Laws
 pub mod Inside

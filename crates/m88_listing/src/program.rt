@@ -1,15 +1,13 @@
 //! The top call.
 ghost use Rattle.std.specs.Prelude.{[], ◌≡◌, ◌≢◌, ◌↔◌, ◌+◌, ◌<◌, ℕ, IfErr, IfOk, List, Some, length};
-ghost use Rattle.std.specs.Io.KnownBytes.{Appends};
-ghost use Rattle.m88_base.specs.Calls.{CallsWithin};
 ghost use Rattle.m88_base.specs.Causes.{Rose};
+ghost use Rattle.m88_base.specs.Filter.{AnswersInput, IsInputLeft, ReadsFor, WritesFor, WritesPart, WritesText};
 ghost use Rattle.m88_base.specs.OneVerdict.{HasOneFaultUnless};
-ghost use Rattle.m88_base.specs.Outside.{AppendsPart, GivesAll, IsWhole, TakesAtMost, TakesExactly};
-ghost use Rattle.m88_base.specs.Reading.{ReadsSource, most_input};
-ghost use Rattle.m88_base.specs.Status.{Answers, IsAnswered, IsOfReading, WritesNothing};
+ghost use Rattle.m88_base.specs.Outside.{GivesAll, IsWhole};
+ghost use Rattle.m88_base.specs.Reading.{ReadsSource};
+ghost use Rattle.m88_base.specs.Status.{Answers, IsOfReading};
 ghost use Rattle.m88_asm.specs.Sources.{IsProgramSource, IsRefusedProgram};
 ghost use Rattle.m88_listing.specs.Answer.{Lists, ListsRefused};
-ghost use Rattle.m88_listing.specs.Calls.{HasSource, IsListed};
 ghost use Rattle.m88_listing.specs.Laws.{EachLineStandsOnce, EachShowsItsImage};
 ghost use Rattle.m88_listing.specs.Listing.{ListsAccepted};
 ghost use Rattle.m88_listing.specs.Inside.Replies.{ListsAs};
@@ -30,56 +28,38 @@ pub fn m88list<S: Source, K: Sink>(
     ensures usage { (result ≡ Status.Usage) ↔ (0 < length words.now) }
     ensures unread { 0 < length words.now → source.new ≡ source.old }
 
-    // The calls that are made of a source that tells them: at most two more than it may have bytes.
-    ensures reads { CallsWithin (most_input + 2) (S.calls source.old) (S.calls source.new) }
-
-    // The source failed, or it has a byte too many.
-    ensures source_fault { result ≡ Status.SourceFault
-        → Rose (S.faults source.old) (S.faults source.new) }
-    ensures too_long { result ≡ Status.TooLong
-        → TakesExactly (S.left source.old) (S.left source.new) (most_input + 1) }
-    ensures not_too_long { result ≢ Status.TooLong
-        → TakesAtMost (S.left source.old) (S.left source.new) most_input }
+    // Whatever the answer is: the source is read by few calls, a source or a sink is blamed only for what it did,
+    // no failure is passed over, and without a text nothing is written.
+    ensures reading { ReadsFor S.left S.calls S.faults source.old source.new result }
+    ensures writing { WritesFor K.faults sink.old sink.new result }
 
     // The source is accepted, was read to its end, and the sink was given its listing, by no more calls than that
     // has bytes.
     ensures done { result ≡ Status.Done
-        → IsListed (S.left source.old) (S.left source.new) ListsAccepted
-        (λ text. Appends (K.held sink.old) (K.held sink.new) text
-        × CallsWithin (length text) (K.calls sink.old) (K.calls sink.new)) }
+        → AnswersInput (S.left source.old) (S.left source.new) ListsAccepted
+        (WritesText K.held K.calls sink.old sink.new) }
 
     // The source is not accepted, and the sink was given the text that says so in the same way; a source whose
     // text stands whole in the sink was refused.
     ensures refused { result ≡ Status.Refused
-        → IsListed (S.left source.old) (S.left source.new) ListsRefused
-        (λ text. Appends (K.held sink.old) (K.held sink.new) text
-        × CallsWithin (length text) (K.calls sink.old) (K.calls sink.new)) }
+        → AnswersInput (S.left source.old) (S.left source.new) ListsRefused
+        (WritesText K.held K.calls sink.old sink.new) }
     ensures refusal { (bytes text : List ℕ) → ListsRefused bytes text
         → S.left source.old ≡ Some bytes → S.left source.new ≡ Some []
         → IsWhole (K.held sink.old) (K.held sink.new) text → result ≡ Status.Refused }
 
     // The sink failed, and was given a front of the text that lacks at least one byte, by no more calls than the
     // text has bytes.
-    ensures sink_fault { result ≡ Status.SinkFault
-        → Rose (K.faults sink.old) (K.faults sink.new) }
     ensures part { result ≡ Status.SinkFault
-        → IsListed (S.left source.old) (S.left source.new) Lists
-        (λ text. AppendsPart (K.held sink.old) (K.held sink.new) text
-        × CallsWithin (length text) (K.calls sink.old) (K.calls sink.new)) }
-
-    // With Done and Refused nothing failed: no failure of the source or of the sink is passed over.
-    ensures unfailed { IsAnswered result → (S.faults source.new ≡ S.faults source.old)
-        × (K.faults sink.new ≡ K.faults sink.old) }
+        → AnswersInput (S.left source.old) (S.left source.new) Lists
+        (WritesPart K.held K.calls sink.old sink.new) }
 
     // Without words, and where nothing failed, a source that is not too long is answered: Done if it is
     // accepted, Refused if it is not, or Memory.
-    ensures complete { (bytes : List ℕ) → length words.now ≡ 0 → HasSource (S.left source.old) bytes
+    ensures complete { (bytes : List ℕ) → length words.now ≡ 0 → IsInputLeft (S.left source.old) bytes
         → ¬ Rose (S.faults source.old) (S.faults source.new)
         → ¬ Rose (K.faults sink.old) (K.faults sink.new)
         → Answers (IsProgramSource bytes) result }
-
-    // With every other answer nothing is written.
-    ensures unwritten { WritesNothing result → sink.new ≡ sink.old }
 
     // A source is accepted, or refused for one reason, never both; and no two texts list it.
     ensures one_verdict { (bytes : List ℕ)

@@ -1,5 +1,5 @@
 -- The transactions of a history are accesses that the data unit can make, with a DMT that is taken.
-use Rattle.std.specs.Prelude.{ℕ, ℤ, zero, suc, Bool, true, false, not, ◌≡◌, ◌-◌, ◌%◌, ◌==◌, ◌&&◌, nat_lt, List, [], ◌∷◌, Option, Some, None, All, if◌then◌else◌}
+use Rattle.std.specs.Prelude.{ℕ, ℤ, zero, suc, Bool, true, false, not, ◌≡◌, ◌%◌, ◌==◌, ◌&&◌, nat_lt, List, [], ◌∷◌, Option, Some, None, All, if◌then◌else◌}
 use Rattle.std.proofs.Common.{refl, sym, inl, inr, arith, subst}
 use Rattle.std.proofs.lemmas.List.Elements.{All-append, All-cons, All-map, All-nil}
 use Rattle.m88_base.specs.declared.reg.Reg.{Reg}

@@ -1,5 +1,5 @@
 -- The verdict on an input, by what was read of it.
-use Rattle.std.specs.Prelude.{ℕ, List, [], ◌++◌, ◌≡◌, ◌<◌, ◌+◌, Bool, true, false, Option, Some, None, IfOk, IfSome, Result, Ok, Err, codes, length}
+use Rattle.std.specs.Prelude.{ℕ, List, [], ◌++◌, ◌≡◌, ◌<◌, Bool, true, false, Option, Some, None, IfOk, IfSome, Result, Ok, Err, codes, length}
 use Rattle.std.specs.Option.{option_or}
 use Rattle.std.proofs.KnownBytes.{Consumes-whole}
 use Rattle.std.proofs.Common.{refl, sym, ap, inl, inr, ◌∙◌, arith, subst, length-append}

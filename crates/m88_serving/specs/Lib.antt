@@ -5,6 +5,5 @@ pub mod Faults
 pub mod Verdict
 pub mod Serving
 pub mod Served
-pub mod Calls
 pub mod Laws
 pub mod Inside

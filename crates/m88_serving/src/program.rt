@@ -1,12 +1,10 @@
 //! The top call.
 ghost use Rattle.std.specs.Prelude.{[], ◌≡◌, ◌≢◌, ◌↔◌, ◌+◌, ◌<◌, ℕ, IfErr, IfOk, List, Some, length};
-ghost use Rattle.std.specs.Io.KnownBytes.{Appends};
-ghost use Rattle.m88_base.specs.Calls.{CallsWithin};
 ghost use Rattle.m88_base.specs.Causes.{Rose};
-ghost use Rattle.m88_base.specs.Outside.{AppendsPart, GivesAll, IsWhole, TakesAtMost, TakesExactly};
-ghost use Rattle.m88_base.specs.Reading.{ReadsSource, most_input};
-ghost use Rattle.m88_base.specs.Status.{Answers, IsAnswered, IsOfReading, WritesNothing};
-ghost use Rattle.m88_serving.specs.Calls.{IsLeft, IsCalled};
+ghost use Rattle.m88_base.specs.Filter.{AnswersInput, IsInputLeft, ReadsFor, WritesFor, WritesPart, WritesText};
+ghost use Rattle.m88_base.specs.Outside.{GivesAll, IsWhole};
+ghost use Rattle.m88_base.specs.Reading.{ReadsSource};
+ghost use Rattle.m88_base.specs.Status.{Answers, IsOfReading};
 ghost use Rattle.m88_serving.specs.Laws.{EachDmtIsOfAnAccess, EachFaultIsServed, EachInputHasOneVerdict, EachLeavesNoneWaiting};
 ghost use Rattle.m88_serving.specs.Served.{IsServedOrTurnedDown, IsServed, IsTurnedDown, turned_down_line};
 ghost use Rattle.m88_serving.specs.Verdict.{IsTakenCase, serve_verdict};
@@ -29,30 +27,22 @@ pub fn m88serve<S: Source, K: Sink>(
     ensures usage { (result ≡ Status.Usage) ↔ (0 < length words.now) }
     ensures unread { 0 < length words.now → source.new ≡ source.old }
 
-    // The calls that are made of a source that tells them: at most two more than it may have bytes.
-    ensures reads { CallsWithin (most_input + 2) (S.calls source.old) (S.calls source.new) }
-
-    // The source failed, or it has a byte too many.
-    ensures source_fault { result ≡ Status.SourceFault
-        → Rose (S.faults source.old) (S.faults source.new) }
-    ensures too_long { result ≡ Status.TooLong
-        → TakesExactly (S.left source.old) (S.left source.new) (most_input + 1) }
-    ensures not_too_long { result ≢ Status.TooLong
-        → TakesAtMost (S.left source.old) (S.left source.new) most_input }
+    // Whatever the answer is: the source is read by few calls, a source or a sink is blamed only for what it did,
+    // no failure is passed over, and without a text nothing is written.
+    ensures reading { ReadsFor S.left S.calls S.faults source.old source.new result }
+    ensures writing { WritesFor K.faults sink.old sink.new result }
 
     // The input is accepted, was read to its end, and the sink was given what a handler must come to, by no more
     // calls than that has bytes.
     ensures done { result ≡ Status.Done
-        → IsCalled (S.left source.old) (S.left source.new) IsServed
-        (λ text. Appends (K.held sink.old) (K.held sink.new) text
-        × CallsWithin (length text) (K.calls sink.old) (K.calls sink.new)) }
+        → AnswersInput (S.left source.old) (S.left source.new) IsServed
+        (WritesText K.held K.calls sink.old sink.new) }
 
     // The input is not accepted, and the sink was given the line that says so in the same way; an input whose line
     // stands whole in the sink was refused.
     ensures refused { result ≡ Status.Refused
-        → IsCalled (S.left source.old) (S.left source.new) IsTurnedDown
-        (λ text. Appends (K.held sink.old) (K.held sink.new) text
-        × CallsWithin (length text) (K.calls sink.old) (K.calls sink.new)) }
+        → AnswersInput (S.left source.old) (S.left source.new) IsTurnedDown
+        (WritesText K.held K.calls sink.old sink.new) }
     ensures refusal { (bytes : List ℕ) (fault : FaultValue) → serve_verdict bytes ≡ Err fault
         → S.left source.old ≡ Some bytes → S.left source.new ≡ Some []
         → IsWhole (K.held sink.old) (K.held sink.new) (turned_down_line fault)
@@ -60,26 +50,16 @@ pub fn m88serve<S: Source, K: Sink>(
 
     // The sink failed, and was given a front of the text that lacks at least one byte, by no more calls than the
     // text has bytes.
-    ensures sink_fault { result ≡ Status.SinkFault
-        → Rose (K.faults sink.old) (K.faults sink.new) }
     ensures part { result ≡ Status.SinkFault
-        → IsCalled (S.left source.old) (S.left source.new) IsServedOrTurnedDown
-        (λ text. AppendsPart (K.held sink.old) (K.held sink.new) text
-        × CallsWithin (length text) (K.calls sink.old) (K.calls sink.new)) }
-
-    // With Done and Refused nothing failed: no failure of the source or of the sink is passed over.
-    ensures unfailed { IsAnswered result → (S.faults source.new ≡ S.faults source.old)
-        × (K.faults sink.new ≡ K.faults sink.old) }
+        → AnswersInput (S.left source.old) (S.left source.new) IsServedOrTurnedDown
+        (WritesPart K.held K.calls sink.old sink.new) }
 
     // Without words, and where nothing failed, an input that is not too long is answered: Done if it is
     // accepted, Refused if it is not, or Memory.
-    ensures complete { (bytes : List ℕ) → length words.now ≡ 0 → IsLeft (S.left source.old) bytes
+    ensures complete { (bytes : List ℕ) → length words.now ≡ 0 → IsInputLeft (S.left source.old) bytes
         → ¬ Rose (S.faults source.old) (S.faults source.new)
         → ¬ Rose (K.faults sink.old) (K.faults sink.new)
         → Answers (IsTakenCase bytes) result }
-
-    // With every other answer nothing is written.
-    ensures unwritten { WritesNothing result → sink.new ≡ sink.old }
 
     // Each input is accepted or has one first fault, never both. A word is taken as a DMT exactly where an access of
     // some instruction has it. Behind the service of what is accepted no register waits.

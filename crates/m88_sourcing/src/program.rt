@@ -1,15 +1,14 @@
 //! The top call.
 ghost use Rattle.std.specs.Prelude.{[], ◌≡◌, ◌≢◌, ◌↔◌, ◌+◌, ℕ, IfErr, IfOk, List, Option, Some, length};
-ghost use Rattle.std.specs.Io.KnownBytes.{Appends};
-ghost use Rattle.m88_base.specs.Calls.{CallsWithin};
 ghost use Rattle.m88_base.specs.Causes.{Rose};
+ghost use Rattle.m88_base.specs.Filter.{IsInputLeft, ReadsFor, WritesFor, WritesPart, WritesText};
 ghost use Rattle.m88_base.specs.OneVerdict.{HasOneFaultUnless};
-ghost use Rattle.m88_base.specs.Outside.{AppendsPart, GivesAll, IsWhole, TakesAtMost, TakesExactly};
-ghost use Rattle.m88_base.specs.Reading.{ReadsSource, most_input};
+ghost use Rattle.m88_base.specs.Outside.{GivesAll, IsWhole};
+ghost use Rattle.m88_base.specs.Reading.{ReadsSource};
 ghost use Rattle.m88_base.specs.Refusal.{Refusal, refusal_line};
-ghost use Rattle.m88_base.specs.Status.{Answers, IsAnswered, IsOfReading, WritesNothing};
+ghost use Rattle.m88_base.specs.Status.{Answers, IsOfReading};
 ghost use Rattle.m88_sourcing.specs.Answer.{Sources, SourcesAccepted, SourcesRefused};
-ghost use Rattle.m88_sourcing.specs.Calls.{IsInputLeft, IsSourced};
+ghost use Rattle.m88_sourcing.specs.Calls.{IsSourced};
 ghost use Rattle.m88_sourcing.specs.Inputs.{IsAcceptedIn, IsRefusedIn};
 ghost use Rattle.m88_sourcing.specs.Inside.Asked.{asked};
 ghost use Rattle.m88_sourcing.specs.Inside.Replies.{IsInputRead, SourcesAs};
@@ -37,30 +36,22 @@ pub fn m88source<S: Source, K: Sink>(
     ensures unread { ((request : Asked) → ¬ Asks (words_of_call words.now) request)
         → source.new ≡ source.old }
 
-    // The calls that are made of a source that tells them: at most two more than it may have bytes.
-    ensures reads { CallsWithin (most_input + 2) (S.calls source.old) (S.calls source.new) }
-
-    // The source failed, or it has a byte too many.
-    ensures source_fault { result ≡ Status.SourceFault
-        → Rose (S.faults source.old) (S.faults source.new) }
-    ensures too_long { result ≡ Status.TooLong
-        → TakesExactly (S.left source.old) (S.left source.new) (most_input + 1) }
-    ensures not_too_long { result ≢ Status.TooLong
-        → TakesAtMost (S.left source.old) (S.left source.new) most_input }
+    // Whatever the answer is: the source is read by few calls, a source or a sink is blamed only for what it did,
+    // no failure is passed over, and without a text nothing is written.
+    ensures reading { ReadsFor S.left S.calls S.faults source.old source.new result }
+    ensures writing { WritesFor K.faults sink.old sink.new result }
 
     // The input is accepted, was read to its end, and the sink was given its source, by no more calls than that
     // has bytes.
     ensures done { result ≡ Status.Done
         → IsSourced (words_of_call words.now) (S.left source.old) (S.left source.new) SourcesAccepted
-        (λ text. Appends (K.held sink.old) (K.held sink.new) text
-        × CallsWithin (length text) (K.calls sink.old) (K.calls sink.new)) }
+        (WritesText K.held K.calls sink.old sink.new) }
 
     // The input is not accepted, and the sink was given the line that says so in the same way; an input whose
     // refusal stands whole in the sink was refused.
     ensures refused { result ≡ Status.Refused
         → IsSourced (words_of_call words.now) (S.left source.old) (S.left source.new) SourcesRefused
-        (λ text. Appends (K.held sink.old) (K.held sink.new) text
-        × CallsWithin (length text) (K.calls sink.old) (K.calls sink.new)) }
+        (WritesText K.held K.calls sink.old sink.new) }
     ensures refusal { (request : Asked) (bytes : List ℕ) (refusal : Refusal)
         → Asks (words_of_call words.now) request → IsRefusedIn request.at bytes refusal
         → S.left source.old ≡ Some bytes → S.left source.new ≡ Some []
@@ -69,16 +60,9 @@ pub fn m88source<S: Source, K: Sink>(
 
     // The sink failed, and was given a front of the text that lacks at least one byte, by no more calls than the
     // text has bytes.
-    ensures sink_fault { result ≡ Status.SinkFault
-        → Rose (K.faults sink.old) (K.faults sink.new) }
     ensures part { result ≡ Status.SinkFault
         → IsSourced (words_of_call words.now) (S.left source.old) (S.left source.new) Sources
-        (λ text. AppendsPart (K.held sink.old) (K.held sink.new) text
-        × CallsWithin (length text) (K.calls sink.old) (K.calls sink.new)) }
-
-    // With Done and Refused nothing failed: no failure of the source or of the sink is passed over.
-    ensures unfailed { IsAnswered result → (S.faults source.new ≡ S.faults source.old)
-        × (K.faults sink.new ≡ K.faults sink.old) }
+        (WritesPart K.held K.calls sink.old sink.new) }
 
     // Where the words ask for something and nothing failed, an input that is not too long is answered: Done if
     // it is accepted, Refused if it is not, or Memory.
@@ -87,9 +71,6 @@ pub fn m88source<S: Source, K: Sink>(
         → ¬ Rose (S.faults source.old) (S.faults source.new)
         → ¬ Rose (K.faults sink.old) (K.faults sink.new)
         → Answers (IsAcceptedIn request.at bytes) result }
-
-    // With every other answer nothing is written.
-    ensures unwritten { WritesNothing result → sink.new ≡ sink.old }
 
     // Words ask for one thing. An input is accepted, or refused for one reason, never both; and it has one text.
     ensures one_request { (a b : Asked) → Asks (words_of_call words.now) a → Asks (words_of_call words.now) b → a ≡ b }

@@ -3,7 +3,7 @@ use Rattle.std.proofs.Common.{◌≡◌, Err, ap, sym, ◌∙◌, subst, ℕ, �
 use Rattle.std.specs.Prelude.{◌≢◌, MatchBool}
 use Rattle.std.proofs.KnownBytes.{Consumes-whole}
 use Rattle.std.specs.Io.KnownBytes.{Consumes, IsAtEnd}
-use Rattle.m88_base.proofs.Laws.{answered, calls_none, not_part, not_whole, only_refused, same_input}
+use Rattle.m88_base.proofs.Laws.{answered, not_part, not_whole, only_refused, same_input}
 use Rattle.m88_base.specs.Outside.{AppendsPart, TakesExactly}
 use Rattle.m88_base.specs.Refusal.{refusal_line, Refusal}
 use Rattle.m88_base.specs.Status.{WritesNothing, Answers, IsOfReading}
@@ -216,9 +216,6 @@ pub returns-in-Ok-clause-unshown : goal.returns-in-Ok-clause-unshown
 returns-in-Ok-clause-unshown g c = λ none.
     let refused = c.write_to.ensures.refused (shows_refused c.write_to.result c.write_to.ensures.written none) in
     let ok = c.in-Ok.ensures.ok in rw refused.0 at ok.3
-
-pub returns-in_default-clause-reads : goal.returns-in_default-clause-reads
-returns-in_default-clause-reads g c = calls_none _ _
 
 pub returns-in-Err-clause-no_reader : goal.returns-in-Err-clause-no_reader
 returns-in-Err-clause-no_reader g c = λ none.

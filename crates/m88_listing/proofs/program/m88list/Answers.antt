@@ -42,18 +42,18 @@ pub returns-in-Ok-clause-done : goal.returns-in-Ok-clause-done
 returns-in-Ok-clause-done g c = λ e.
     let ok = c.in-Ok.ensures.ok in
     let done = c.write_to.ensures.done e in
-    record { source = ok.0; given = ok.1; text = c.in-Ok.reply.text.items; is_text = rw done.0 at ok.2; written = (done.1, c.write_to.ensures.calls) }
+    record { input = ok.0; given = ok.1; text = c.in-Ok.reply.text.items; is_text = rw done.0 at ok.2; written = (done.1, c.write_to.ensures.calls) }
 
 pub returns-in-Ok-clause-refused : goal.returns-in-Ok-clause-refused
 returns-in-Ok-clause-refused g c = λ e.
     let ok = c.in-Ok.ensures.ok in
     let refused = c.write_to.ensures.refused e in
-    record { source = ok.0; given = ok.1; text = c.in-Ok.reply.text.items; is_text = rw refused.0 at ok.2; written = (refused.1, c.write_to.ensures.calls) }
+    record { input = ok.0; given = ok.1; text = c.in-Ok.reply.text.items; is_text = rw refused.0 at ok.2; written = (refused.1, c.write_to.ensures.calls) }
 
 pub returns-in-Ok-clause-part : goal.returns-in-Ok-clause-part
 returns-in-Ok-clause-part g c = λ e.
     let ok = c.in-Ok.ensures.ok in
-    record { source = ok.0; given = ok.1; text = c.in-Ok.reply.text.items; is_text = lists_of ok.0 c.in-Ok.reply ok.2; written = (c.write_to.ensures.part e, c.write_to.ensures.calls) }
+    record { input = ok.0; given = ok.1; text = c.in-Ok.reply.text.items; is_text = lists_of ok.0 c.in-Ok.reply ok.2; written = (c.write_to.ensures.part e, c.write_to.ensures.calls) }
 
 pub returns-then-not-is_empty-clause-image : goal.returns-then-not-is_empty-clause-image
 returns-then-not-is_empty-clause-image g c = each_shows_its_image

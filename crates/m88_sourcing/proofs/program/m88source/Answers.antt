@@ -55,11 +55,7 @@ returns-in-Ok-clause-done g c = λ e.
     record {
       request = asked c.in-Some.request;
       asked = c.in-Some.ensures.found;
-      input = ok.0;
-      given = ok.1;
-      text = c.in-Ok.reply.text.items;
-      is_text = rw done.0 at ok.2;
-      written = (done.1, c.write_to.ensures.calls);
+      answered = record { input = ok.0; given = ok.1; text = c.in-Ok.reply.text.items; is_text = rw done.0 at ok.2; written = (done.1, c.write_to.ensures.calls) };
     }
 
 pub returns-in-Ok-clause-refused : goal.returns-in-Ok-clause-refused
@@ -69,11 +65,7 @@ returns-in-Ok-clause-refused g c = λ e.
     record {
       request = asked c.in-Some.request;
       asked = c.in-Some.ensures.found;
-      input = ok.0;
-      given = ok.1;
-      text = c.in-Ok.reply.text.items;
-      is_text = rw refused.0 at ok.2;
-      written = (refused.1, c.write_to.ensures.calls);
+      answered = record { input = ok.0; given = ok.1; text = c.in-Ok.reply.text.items; is_text = rw refused.0 at ok.2; written = (refused.1, c.write_to.ensures.calls) };
     }
 
 pub returns-in-Ok-clause-part : goal.returns-in-Ok-clause-part
@@ -82,11 +74,7 @@ returns-in-Ok-clause-part g c = λ e.
     record {
       request = asked c.in-Some.request;
       asked = c.in-Some.ensures.found;
-      input = ok.0;
-      given = ok.1;
-      text = c.in-Ok.reply.text.items;
-      is_text = answer_of (asked c.in-Some.request) ok.0 c.in-Ok.reply ok.2;
-      written = (c.write_to.ensures.part e, c.write_to.ensures.calls);
+      answered = record { input = ok.0; given = ok.1; text = c.in-Ok.reply.text.items; is_text = answer_of (asked c.in-Some.request) ok.0 c.in-Ok.reply ok.2; written = (c.write_to.ensures.part e, c.write_to.ensures.calls) };
     }
 
 pub returns-in_default-clause-one_request : goal.returns-in_default-clause-one_request
