@@ -1,5 +1,5 @@
 -- Relocations carried out one after the other on all sections of an object, and section by section.
-use Rattle.std.proofs.Common.{◌≡◌, ℕ, zero, suc, ◌+◌, ◌<◌, ◌≤◌, List, [], ◌∷◌, ◌++◌, length, take, drop, get_or, set, map, Bool, true, false, refl, sym, ap, ◌∙◌, arith, length-append, length-drop, length-take, add-zero}
+use Rattle.std.proofs.Common.{◌≡◌, ℕ, zero, suc, ◌+◌, ◌<◌, ◌≤◌, List, [], ◌∷◌, ◌++◌, length, take, drop, get_or, set, map, filter, Bool, true, false, None, refl, sym, ap, subst, ◌∙◌, arith, length-append, length-drop, length-take, add-zero}
 use Rattle.std.proofs.lemmas.Bool.Decides.{nat_tests}
 use Rattle.std.proofs.lemmas.List.{drop_more}
 use Rattle.std.proofs.lemmas.List.Elements.{All-weaker}
@@ -15,6 +15,7 @@ use Rattle.m88_link.specs.declared.object.Symbol.{Symbol}
 use Rattle.m88_link.specs.Bases.{Placement, base_at, base_of}
 use Rattle.m88_link.specs.declared.object.Object.{Object}
 use Rattle.m88_link.specs.Inside.Lent.{own_or_lent}
+use Rattle.m88_link.specs.Inside.Resolved.{carried_known, is_kept, value_or_zero}
 use Rattle.m88_link.specs.Inside.Carried.{HasWord, unpatched, carried, numbered, patched_in, patched_spot}
 use Rattle.m88_link.specs.Field.{patched_word}
 use Rattle.m88_link.specs.Layout.{spot, spots_of, value_of_name}
@@ -153,15 +154,69 @@ bare_word s (x ∷ xs) (suc m) offset h = bare_word s xs m offset h
 pub has_words : (s : Placement Object) (xs : List Section) (rs : List Reloc) → All (IsPatchIn xs) rs → All (HasWord (map (unpatched s) xs)) rs
 has_words s xs rs h = All-weaker (IsPatchIn xs) (HasWord (map (unpatched s) xs)) (λ r k. bare_word s xs r.section r.offset k) rs h
 
--- the relocation at a place is carried out before those behind it
-pub carried_more : (target : Reloc → ℕ) (rs : List Reloc) (i : ℕ) (r : Reloc) (spots : List Placed) → i < length rs → r ≡ get_or rs i r
-    → carried target (drop i rs) spots ≡ carried target (drop (i + 1) rs) (patched_in r (target r) spots)
-carried_more target rs i r spots h e =
-    ap (λ l. carried target l spots) (drop_more rs i r h ∙ ap (λ x. x ∷ drop (i + 1) rs) (sym e))
-
 -- the word of a relocation lies in its section
 pub word_here : (spots : List Placed) (m offset : ℕ) (p : Placed) → IsSomeAnd (slice_get spots m) (λ q. offset + 4 ≤ length q.bytes) → p ≡ get_or spots m p
     → (m < length spots) × (offset + 4 ≤ length p.bytes)
 word_here [] m offset p h e = absurd h
 word_here (q ∷ qs) zero offset p h e = (omega arith, omega (arith, h, ap (λ (x : Placed). length x.bytes) e))
 word_here (q ∷ qs) (suc m) offset p h e = let rest = word_here qs m offset p h e in (omega (arith, rest.0), rest.1)
+
+-- one relocation, where it can be carried out
+pub known_one : (table : List Symbol) (s : Placement Object) (x : Reloc) (spots : List Placed) (p changed : Placed) (target : ℕ)
+    → Some target ≡ (if is_kept table s x then Some (target_of (value_or_zero table s) x) else None) → changed ≡ patched_spot x target p
+    → HasWord spots x → p ≡ get_or spots x.section p → set spots x.section changed ≡ carried_known table s (x ∷ []) spots
+known_one table s x spots p changed target own is word e = by (is_kept table s x) own
+  where
+    t : ℕ
+    t = target_of (value_or_zero table s) x
+
+    by : (b : Bool) → Some target ≡ (if b then Some t else None)
+        → set spots x.section changed ≡ carried (target_of (value_or_zero table s)) (if b then x ∷ [] else []) spots
+    by true h =
+        let same : target ≡ t = cc in
+        ap (set spots x.section) (is ∙ ap (λ n. patched_spot x n p) same)
+        ∙ patched_at x t spots p (word_here spots x.section x.offset p word e).0 e
+    by false h = cc
+
+-- relocations in two parts, of which those that can be are carried out
+filtered : (keep : Reloc → Bool) (target : Reloc → ℕ) (r : Reloc) (rs : List Reloc) (spots : List Placed)
+    → carried target (filter keep (r ∷ rs)) spots ≡ carried target (filter keep rs) (carried target (filter keep (r ∷ [])) spots)
+filtered keep target r rs spots = by (keep r)
+  where
+    by : (b : Bool)
+        → carried target (if b then r ∷ filter keep rs else filter keep rs) spots
+        ≡ carried target (filter keep rs) (carried target (if b then r ∷ [] else []) spots)
+    by true = refl
+    by false = refl
+
+-- the relocation at a place is carried out before those behind it
+pub known_more : (table : List Symbol) (s : Placement Object) (rs : List Reloc) (i : ℕ) (r : Reloc) (spots : List Placed) → i < length rs → r ≡ get_or rs i r
+    → carried_known table s (drop i rs) spots ≡ carried_known table s (drop (i + 1) rs) (carried_known table s (r ∷ []) spots)
+known_more table s rs i r spots h e =
+    ap (λ l. carried_known table s l spots) (drop_more rs i r h ∙ ap (λ x. x ∷ drop (i + 1) rs) (sym e))
+    ∙ filtered (is_kept table s) (target_of (value_or_zero table s)) r (drop (i + 1) rs) spots
+
+-- the section of a relocation
+section_of : (spots : List Placed) (m offset : ℕ) → IsSomeAnd (slice_get spots m) (λ q. offset + 4 ≤ length q.bytes) → (p : Placed) × (p ≡ get_or spots m p)
+section_of [] m offset h = absurd h
+section_of (q ∷ qs) zero offset h = (q, refl)
+section_of (q ∷ qs) (suc m) offset h = section_of qs m offset h
+
+patched_kept : (spots : List Placed) (x : Reloc) (target : ℕ) (r : Reloc) → HasWord spots x → HasWord spots r → HasWord (patched_in x target spots) r
+patched_kept spots x target r own h =
+    let p = section_of spots x.section x.offset own in
+    let here = word_here spots x.section x.offset p.0 own p.1 in
+    subst (λ l. HasWord l r) (patched_at x target spots p.0 here.0 p.1)
+    (word_kept spots x.section target r x p.0 p.1 here.1 h)
+
+-- the words of relocations lie in the sections on which one is carried out
+pub words_kept : (table : List Symbol) (s : Placement Object) (x : Reloc) (rs : List Reloc) (spots : List Placed) → HasWord spots x → All (HasWord spots) rs
+    → All (HasWord (carried_known table s (x ∷ []) spots)) rs
+words_kept table s x rs spots own words = by (is_kept table s x)
+  where
+    t : ℕ
+    t = target_of (value_or_zero table s) x
+
+    by : (b : Bool) → All (HasWord (carried (target_of (value_or_zero table s)) (if b then x ∷ [] else []) spots)) rs
+    by false = words
+    by true = λ k d h. patched_kept spots x t (get_or rs k d) own (words k d h)

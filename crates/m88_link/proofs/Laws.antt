@@ -12,6 +12,8 @@ pub use Rattle.m88_link.proofs.Extents.{too_large_is}
 pub use Rattle.m88_link.proofs.Rooms.{all_sound, alone_is}
 -- runs that stand apart have no address twice, and such runs with the same bytes have as many
 pub use Rattle.m88_link.proofs.Counted.{alone_apart, same_count}
+-- The forced layout: objects without some of their relocations stand where they do, and define the same.
+pub use Rattle.m88_link.proofs.Forced.{base_same, forced_globals, value_same}
 -- Symbols: parts that repeat no name behind each other repeat none together.
 pub use Rattle.m88_link.proofs.Parts.{repeats_none}
 -- A help of proofs: what holds of all elements of joined lists holds of those of the first.

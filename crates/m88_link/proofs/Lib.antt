@@ -1,6 +1,10 @@
 -- Lemmas in the order of the way: symbols and where objects stand, overlap, lists in parts, relocation and the image,
 -- the layout as a whole, and lines of bytes; Laws is for those above.
 pub mod Repeated
+pub mod Found
+pub mod Exported
+pub mod Resolved
+pub mod Forced
 pub mod Tabled
 pub mod Stood
 pub mod Swept

@@ -38,7 +38,7 @@ same_overlap es f g a b =
     a.told ∙ told ∙ sym b.told
 
 -- where two bytes have an address the extents aren't disjoint
-not_disjoint : (es : List Extent) (f : LinkFault) → IsOverlap es f → AreDisjoint es → ⊥
+pub not_disjoint : (es : List Extent) (f : LinkFault) → IsOverlap es f → AreDisjoint es → ⊥
 not_disjoint es f a apart = let few = apart a.at in let double = a.double in absurd (omega arith)
 
 -- a layout has one refusal

@@ -54,23 +54,9 @@ first_fault-append find_in (x ∷ xs) ys =
     ap (λ o. option_or (find_in x) o) (first_fault-append find_in xs ys)
     ∙ sym (option_or_assoc (find_in x) (first_fault find_in xs) (first_fault find_in ys))
 
-mapped_first : {A B : Type 0} (f : A → B) (o r : Option A) (e : B) → option_map f o ≡ Some e → option_map f (option_or o r) ≡ Some e
-mapped_first f None r e h = cc
-mapped_first f (Some x) r e h = h
-
 pub some_first : {A : Type 0} (o r : Option A) (e : A) → o ≡ Some e → option_or o r ≡ Some e
 some_first None r e h = cc
 some_first (Some x) r e h = h
-
--- a part that none before it repeats has the first repeated name
-pub repeats_within : {B : Type 0} (f : Repetition → B) (old done one rest : List Symbol) (e : B) → repeated_after old done ≡ None
-    → option_map f (repeated_after (old ++ done) one) ≡ Some e → option_map f (repeated_after old (done ++ (one ++ rest))) ≡ Some e
-repeats_within f old done one rest e clean h =
-    ap (λ o. option_map f o)
-    (repeated_after-append old done (one ++ rest)
-    ∙ ap (λ o. option_or o (repeated_after (old ++ done) (one ++ rest))) clean
-    ∙ repeated_after-append (old ++ done) one rest)
-    ∙ mapped_first f (repeated_after (old ++ done) one) (repeated_after ((old ++ done) ++ one) rest) e h
 
 -- a part that repeats no name behind one that repeats none
 pub repeats_none : (old done one : List Symbol) → repeated_after old done ≡ None → repeated_after (old ++ done) one ≡ None
@@ -84,8 +70,3 @@ pub fault_within : {A : Type 0} (find_in : A → Option LinkFault) (done one res
 fault_within find_in done one rest e clean h =
     first_fault-append find_in done (one ++ rest) ∙ ap (λ o. option_or o (first_fault find_in (one ++ rest))) clean
     ∙ first_fault-append find_in one rest ∙ some_first (first_fault find_in one) (first_fault find_in rest) e h
-
-pub fault_none : {A : Type 0} (find_in : A → Option LinkFault) (done one : List A) → first_fault find_in done ≡ None
-    → first_fault find_in one ≡ None → first_fault find_in (done ++ one) ≡ None
-fault_none find_in done one clean h =
-    first_fault-append find_in done one ∙ ap (λ o. option_or o (first_fault find_in one)) clean ∙ h

@@ -12,6 +12,7 @@ use Rattle.m88_base.proofs.Laws.{option_or-none, option_or_assoc}
 use Rattle.m88_link.specs.declared.object.Definition.{Definition}
 use Rattle.m88_link.specs.declared.object.Symbol.{Symbol}
 use Rattle.m88_link.specs.Symbols.{joined, repetition, repeated_after, first_repeated, symbol_of}
+use Rattle.m88_link.specs.Inside.Exports.{withdrawn}
 use Rattle.m88_link.specs.Inside.Tables.{entry_symbols}
 
 -- what is found under a name is the first symbol of that name
@@ -38,6 +39,31 @@ added name d (e ∷ es) absent = by (bytes_eq name e.0) absent (added name d es)
         some_none : Some (joined e.0 e.1) ≡ None → ⊥
         some_none i = cc
     by false h rest = ap (λ l. joined e.0 e.1 ∷ l) (rest h)
+
+-- a definition that isn't global any more stands where it did
+pub withdrawn_is : (name : List ℕ) (d : Definition) (es : List (List ℕ × Definition)) → lookup (bytes_eq name) es ≡ Some d
+    → entry_symbols (insert_entry bytes_eq es name (record d { global = false })) ≡ withdrawn name (entry_symbols es)
+withdrawn_is name d [] there = cc
+withdrawn_is name d (e ∷ es) there = by (bytes_eq name e.0) there (withdrawn_is name d es)
+  where
+    by : (b : Bool) → cond b (Some e.1) (lookup (bytes_eq name) es) ≡ Some d
+        → (lookup (bytes_eq name) es ≡ Some d → entry_symbols (insert_entry bytes_eq es name (record d { global = false })) ≡ withdrawn name (entry_symbols es))
+        → entry_symbols (if b then (e.0, record d { global = false }) ∷ es else e ∷ insert_entry bytes_eq es name (record d { global = false }))
+        ≡ (if b then record (joined e.0 e.1) { global = false } ∷ entry_symbols es else joined e.0 e.1 ∷ withdrawn name (entry_symbols es))
+    by true h rest =
+        let same : e.1 ≡ d = cc in
+        ap (λ (x : Definition). record (joined e.0 x) { global = false } ∷ entry_symbols es) (sym same)
+    by false h rest = ap (λ l. joined e.0 e.1 ∷ l) (rest h)
+
+-- a name that isn't there has none
+pub withdrawn_none : (name : List ℕ) (ss : List Symbol) → symbol_of ss name ≡ None → withdrawn name ss ≡ ss
+withdrawn_none name [] absent = refl
+withdrawn_none name (s ∷ ss) absent = by (bytes_eq name s.name) absent (withdrawn_none name ss)
+  where
+    by : (b : Bool) → cond b (Some s) (symbol_of ss name) ≡ None → (symbol_of ss name ≡ None → withdrawn name ss ≡ ss)
+        → (if b then record s { global = false } ∷ ss else s ∷ withdrawn name ss) ≡ s ∷ ss
+    by true h rest = cc
+    by false h rest = ap (λ l. s ∷ l) (rest h)
 
 -- names are apart either way
 other_way : (x y : List ℕ) → bytes_eq x y ≡ false → bytes_eq y x ≡ false

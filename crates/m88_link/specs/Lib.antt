@@ -9,6 +9,7 @@ pub mod Relocated
 pub mod Layout
 pub mod Faults
 pub mod Refusal
+pub mod Forced
 pub mod Linked
 pub mod Reasons
 pub mod ObjectText

@@ -1,6 +1,6 @@
 -- Symbol tables (object file formats: symbol binding and resolution): what a name means among symbols, and the first
 -- symbol whose name is there already.
-use Rattle.std.specs.Prelude.{ℕ, ◌+◌, ◌%◌, ◌^◌, List, [], ◌∷◌, ◌++◌, find, filter, map, Option, None, bytes_eq}
+use Rattle.std.specs.Prelude.{ℕ, ◌+◌, ◌%◌, ◌^◌, ◌==◌, ◌||◌, Bool, List, [], ◌∷◌, ◌++◌, count_by, find, filter, is_some, map, Option, None, bytes_eq}
 use Rattle.std.specs.Option.{option_map, option_map_or, option_or}
 use Rattle.m88_link.specs.declared.object.Definition.{Definition}
 use Rattle.m88_link.specs.declared.object.Symbol.{Symbol}
@@ -53,3 +53,7 @@ exported base symbols = map (absolute base) (filter (λ s. s.global) symbols)
 abbrev pub symbol_meaning : List Symbol → (ℕ → ℕ) → List Symbol → List ℕ → Option ℕ
 symbol_meaning globals base symbols name =
     option_or (option_map (value_in base) (symbol_of symbols name)) (option_map (λ g. g.value) (symbol_of globals name))
+
+-- a name means one thing among symbols and global symbols: it is one of the symbols, or one global symbol alone has it
+abbrev pub is_known : List Symbol → List Symbol → List ℕ → Bool
+is_known globals symbols name = is_some (symbol_of symbols name) || count_by (λ g. bytes_eq name g.name) globals == 1

@@ -12,6 +12,7 @@ mod table;
 // Parts of linking.
 mod bases;
 mod exports;
+mod findings;
 mod linking;
 mod overlap;
 mod patch;
@@ -31,7 +32,7 @@ mod words;
 
 pub use bases::{Placement, stand};
 pub use fault::{LinkFault, LinkKind};
-pub use linking::link;
+pub use linking::{link, link_forced};
 pub use object::{Definition, Object, Place, Reloc, Section, Symbol};
 pub use object_fault::ObjectFault;
 pub use read::read_objects;

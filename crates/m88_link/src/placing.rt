@@ -1,22 +1,19 @@
 //! The bytes of sections with their relocations carried out, and the image of them.
-ghost use Rattle.std.specs.Prelude.{◌≡◌, ◌⊎◌, ℕ, [], ◌+◌, ◌++◌, ◌^◌, ◌≤◌, All, IfErr, IfOk, None, OnErr, OnOk, Some, flat_map, length, map};
-ghost use Rattle.std.specs.Option.{option_or};
+ghost use Rattle.std.specs.Prelude.{◌≡◌, ◌∷◌, ℕ, [], ◌+◌, ◌++◌, ◌^◌, ◌≤◌, All, IfOk, OnErr, OnOk, flat_map, length, map};
 ghost use Rattle.m88_base.specs.Found.{IsFree, PutsBytes};
-ghost use Rattle.m88_base.specs.Image.{byte_at, byte_count};
+ghost use Rattle.m88_base.specs.Image.{byte_at, byte_count, most_bytes};
 ghost use Rattle.m88_base.specs.Placed.{byte_among, count_among};
 ghost use Rattle.m88_link.specs.Bases.{base_at};
-ghost use Rattle.m88_link.specs.Inside.Carried.{AreAlone, HasWord, unpatched, carried, patched_spot};
-ghost use Rattle.m88_link.specs.Faults.{memory_fault};
+ghost use Rattle.m88_link.specs.Inside.Carried.{AreAlone, HasWord, unpatched, patched_spot};
+ghost use Rattle.m88_link.specs.Inside.Findings.{EndsAt, with_uses};
 ghost use Rattle.m88_link.specs.Inside.Lent.{own_or_lent};
-ghost use Rattle.m88_link.specs.Inside.Resolved.{Checks};
-ghost use Rattle.m88_link.specs.Layout.{references_of, spots_of, value_of_name};
+ghost use Rattle.m88_link.specs.Inside.Resolved.{all_uses, carried_known, carried_spots, uses_in};
 ghost use Rattle.m88_link.specs.Refusal.{too_far, undefined};
-ghost use Rattle.m88_link.specs.Relocated.{target_of};
 ghost use Rattle.m88_link.specs.Sound.{IsPatchIn};
-ghost use Rattle.m88_base.specs.Image.{most_bytes};
 
 use crate::bases::Placement;
 use crate::fault::{LinkFault, OUT_OF_MEMORY};
+use crate::findings::Findings;
 use crate::object::{Reloc, Section};
 use crate::patch::patch;
 use crate::resolve::{checked_target, own_symbols};
@@ -96,32 +93,28 @@ impl Spot<'_> {
     }
 }
 
-/// The bytes of the sections of all objects, in order, with their relocations carried out; or the first
-/// name that means nothing, or else the first displacement that doesn't fit its field.
+/// The bytes of the sections of all objects, in order, with those relocations carried out that can be; or the first
+/// name that means nothing.
 pub fn spots<'a>(
     alloc: Global,
+    findings: &mut Findings,
     placements: &'a [Placement<'_>],
     globals: &SymbolTable,
 ) -> Result<Vec<Spot<'a>>, LinkFault>
     ensures spots { IfOk result (λ spots. spots.items
-        ≡ flat_map (spots_of globals.now) placements.now) }
-    ensures ok { OnOk result
-        (option_or (undefined (flat_map (references_of globals.now) placements.now))
-        (too_far (flat_map (references_of globals.now) placements.now)) ≡ None) }
-    ensures err { IfErr result (λ e. (e ≡ memory_fault)
-        ⊎ (option_or (undefined (flat_map (references_of globals.now) placements.now))
-        (too_far (flat_map (references_of globals.now) placements.now)) ≡ Some e)) }
+        ≡ flat_map (carried_spots globals.now) placements.now) }
+    ensures ends { EndsAt findings.old.goes_on
+        (undefined (flat_map (all_uses globals.now) placements.now))
+        (findings.new ≡ with_uses findings.old
+        (undefined (flat_map (all_uses globals.now) placements.now))
+        (too_far (flat_map (all_uses globals.now) placements.now))) result }
 {
     let mut spots = Vec::new(alloc);
-    let mut far = None;
     for placement in placements {
-        let own = object_spots(alloc, &mut far, placement, globals)?;
+        let own = object_spots(alloc, findings, placement, globals)?;
         spots = joined(spots, own)?;
     }
-    match far {
-        Some(fault) => Err(fault),
-        None => Ok(spots),
-    }
+    Ok(spots)
 }
 
 /// Two lists as one. Where nothing stands in the first, the second isn't copied: most programs are one object.
@@ -138,24 +131,25 @@ fn joined<'a>(
     Ok(front)
 }
 
-/// The bytes of the sections of an object with its relocations carried out; refuses the first of them
-/// whose symbol means nothing, and keeps the first that is too far.
+/// The bytes of the sections of an object with those relocations carried out that can be; or the first name that
+/// means nothing.
 fn object_spots<'a>(
     alloc: Global,
-    far: &mut Option<LinkFault>,
+    findings: &mut Findings,
     placement: &'a Placement<'_>,
     globals: &SymbolTable,
 ) -> Result<Vec<Spot<'a>>, LinkFault>
-    ensures spots { IfOk result (λ spots. spots.items ≡ spots_of globals.now placement.now) }
-    ensures checks { Checks globals.now placement.now placement.now.part.relocs
-        far.old far.new result }
+    ensures spots { IfOk result (λ spots. spots.items ≡ carried_spots globals.now placement.now) }
+    ensures ends { EndsAt findings.old.goes_on (undefined (all_uses globals.now placement.now))
+        (findings.new ≡ with_uses findings.old (undefined (all_uses globals.now placement.now))
+        (too_far (all_uses globals.now placement.now))) result }
 {
     let mut spots = bare_spots(alloc, placement, placement.sections())?;
     let own = own_symbols(alloc, placement.symbols())?;
     match carry_out(
         alloc,
         &mut spots,
-        far,
+        findings,
         globals,
         placement,
         &own,
@@ -186,12 +180,11 @@ fn bare_spots<'a>(
     Ok(spots)
 }
 
-/// Carries out relocations of an object on its sections; refuses the first whose symbol means nothing,
-/// and keeps the first that is too far.
+/// Carries out relocations of an object on its sections, those that can be.
 fn carry_out(
     alloc: Global,
     spots: &mut Vec<Spot<'_>>,
-    far: &mut Option<LinkFault>,
+    findings: &mut Findings,
     globals: &SymbolTable,
     placement: &Placement,
     own: &SymbolTable,
@@ -201,24 +194,55 @@ fn carry_out(
     requires sound { All (IsPatchIn placement.now.part.sections) relocs.now }
     requires words { All (HasWord spots.old.items) relocs.now }
     ensures spots { OnOk result (spots.new.items
-        ≡ carried (target_of (value_of_name globals.now placement.now)) relocs.now
-        spots.old.items) }
-    ensures checks { Checks globals.now placement.now relocs.now far.old far.new result }
+        ≡ carried_known globals.now placement.now relocs.now spots.old.items) }
+    ensures ends { EndsAt findings.old.goes_on
+        (undefined (uses_in globals.now placement.now relocs.now))
+        (findings.new ≡ with_uses findings.old
+        (undefined (uses_in globals.now placement.now relocs.now))
+        (too_far (uses_in globals.now placement.now relocs.now))) result }
 {
     for reloc in relocs {
         // No `?`: the proof of this loop isn't found with it.
-        match checked_target(far, globals, placement, own, reloc) {
-            Ok(target) => {
-                let spot = &mut spots[reloc.section as usize];
-                match spot.patch(alloc, reloc, target) {
-                    Ok(()) => {}
-                    Err(_) => return Err(OUT_OF_MEMORY),
-                }
-            }
+        match carry(alloc, spots, findings, globals, placement, own, reloc) {
+            Ok(()) => {}
             Err(fault) => return Err(fault),
         }
     }
     Ok(())
+}
+
+/// Carries out a relocation of an object on its sections, where it can be.
+fn carry(
+    alloc: Global,
+    spots: &mut Vec<Spot<'_>>,
+    findings: &mut Findings,
+    globals: &SymbolTable,
+    placement: &Placement,
+    own: &SymbolTable,
+    reloc: &Reloc,
+) -> Result<(), LinkFault>
+    requires own { own.now ≡ placement.now.part.symbols }
+    requires sound { IsPatchIn placement.now.part.sections reloc.now }
+    requires word { HasWord spots.old.items reloc.now }
+    ensures spots { OnOk result (spots.new.items
+        ≡ carried_known globals.now placement.now (reloc.now ∷ []) spots.old.items) }
+    ensures ends { EndsAt findings.old.goes_on
+        (undefined (uses_in globals.now placement.now (reloc.now ∷ [])))
+        (findings.new ≡ with_uses findings.old
+        (undefined (uses_in globals.now placement.now (reloc.now ∷ [])))
+        (too_far (uses_in globals.now placement.now (reloc.now ∷ [])))) result }
+{
+    match checked_target(findings, globals, placement, own, reloc) {
+        Ok(Some(target)) => {
+            let spot = &mut spots[reloc.section as usize];
+            match spot.patch(alloc, reloc, target) {
+                Ok(()) => Ok(()),
+                Err(_) => Err(OUT_OF_MEMORY),
+            }
+        }
+        Ok(None) => Ok(()),
+        Err(fault) => Err(fault),
+    }
 }
 
 /// The image of sections, no two of which have one address.

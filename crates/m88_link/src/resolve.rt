@@ -1,15 +1,16 @@
 //! What names mean, and the uses of names that can't be carried out.
-ghost use Rattle.std.specs.Prelude.{◌≡◌, ◌∷◌, [], IfOk, unwrap_or, None};
-ghost use Rattle.m88_link.specs.Bases.{base_of};
-ghost use Rattle.m88_link.specs.Layout.{reference, value_of_name};
+ghost use Rattle.std.specs.Prelude.{◌≡◌, ℕ, IfOk, List, None, Some, if◌then◌else◌};
+ghost use Rattle.m88_link.specs.Inside.Findings.{EndsAt, with_uses};
+ghost use Rattle.m88_link.specs.Inside.Resolved.{is_kept, known_value, use_in, value_alone, value_or_zero};
+ghost use Rattle.m88_link.specs.Refusal.{too_far_in, undefined_in};
 ghost use Rattle.m88_link.specs.Relocated.{target_of};
-ghost use Rattle.m88_link.specs.Inside.Resolved.{Checks};
 ghost use Rattle.m88_link.specs.Sound.{IsPatchIn};
-ghost use Rattle.m88_link.specs.Symbols.{first_repeated, symbol_meaning};
+ghost use Rattle.m88_link.specs.Symbols.{first_repeated, joined};
 
 use crate::bases::Placement;
 use crate::fault::{LinkFault, LinkKind};
-use crate::object::{Reloc, Symbol};
+use crate::findings::Findings;
+use crate::object::{Definition, Reloc, Symbol};
 use crate::patch::{distance, is_in_reach};
 use crate::table::SymbolTable;
 use m88_base::Name;
@@ -27,23 +28,38 @@ pub fn own_symbols(alloc: Global, symbols: &[Symbol]) -> Result<SymbolTable, All
     Ok(table)
 }
 
-/// What a name means in an object: its definition there, or else the global one.
+/// What a name means in an object, where that is one thing: its definition there, or else the only global one.
 fn meaning(
     globals: &SymbolTable,
     placement: &Placement,
     own: &SymbolTable,
     name: &Name,
 ) -> Option<u32>
-    ensures { result ≡ symbol_meaning globals.now (base_of placement.now) own.now name.now }
+    requires { own.now ≡ placement.now.part.symbols }
+    ensures { result ≡ known_value globals.now placement.now name.now }
 {
     match own.get(name) {
         Some(found) => Some(placement.value(found.section, found.value)),
-        None => globals.get(name).map(|found| found.value),
+        None => match globals.get(name) {
+            Some(found) => value_alone(found),
+            None => None,
+        },
+    }
+}
+
+/// The value of a global symbol that no other has the name of.
+fn value_alone(found: &Definition) -> Option<u32>
+    ensures { (name : List ℕ) → result ≡ value_alone (joined name found.now) }
+{
+    if found.global {
+        Some(found.value)
+    } else {
+        None
     }
 }
 
 /// The target of a relocation of an object, the symbol's value plus the addend, where the symbol means
-/// something.
+/// one thing.
 fn target(
     globals: &SymbolTable,
     placement: &Placement,
@@ -51,45 +67,48 @@ fn target(
     reloc: &Reloc,
 ) -> Option<u32>
     requires { own.now ≡ placement.now.part.symbols }
-    ensures known { result
-        ≡ (reference globals.now (base_of placement.now) own.now reloc.now).target }
-    ensures value { unwrap_or result reloc.now.addend
-        ≡ target_of (value_of_name globals.now placement.now) reloc.now }
+    ensures { result ≡ (use_in globals.now placement.now reloc.now).target }
 {
     let addend = reloc.addend;
     let value = meaning(globals, placement, own, &reloc.symbol)?;
     Some(value.wrapping_add(addend))
 }
 
-/// The target of a relocation of an object; refuses one whose symbol means nothing, and keeps it where
-/// it is the first that is too far.
+/// The target of a relocation of an object where it can be carried out.
 pub fn checked_target(
-    far: &mut Option<LinkFault>,
+    findings: &mut Findings,
     globals: &SymbolTable,
     placement: &Placement,
     own: &SymbolTable,
     reloc: &Reloc,
-) -> Result<u32, LinkFault>
+) -> Result<Option<u32>, LinkFault>
     requires own { own.now ≡ placement.now.part.symbols }
     requires sound { IsPatchIn placement.now.part.sections reloc.now }
     ensures target { IfOk result (λ target. target
-        ≡ target_of (value_of_name globals.now placement.now) reloc.now) }
-    ensures checks { Checks globals.now placement.now (reloc.now ∷ []) far.old far.new result }
+        ≡ if is_kept globals.now placement.now reloc.now
+        then Some (target_of (value_or_zero globals.now placement.now) reloc.now) else None) }
+    ensures ends { EndsAt findings.old.goes_on
+        (undefined_in (use_in globals.now placement.now reloc.now))
+        (findings.new ≡ with_uses findings.old
+        (undefined_in (use_in globals.now placement.now reloc.now))
+        (too_far_in (use_in globals.now placement.now reloc.now))) result }
 {
     let Some(target) = target(globals, placement, own, reloc) else {
-        return Err(LinkFault {
+        findings.add_undefined(LinkFault {
             line: reloc.line,
             col: reloc.col,
             kind: LinkKind::Undefined(reloc.symbol),
-        });
+        })?;
+        return Ok(None);
     };
     let at = placement.address(reloc);
-    if far.is_none() && !is_in_reach(reloc.kind, target, at) {
-        *far = Some(LinkFault {
-            line: reloc.line,
-            col: reloc.col,
-            kind: LinkKind::TooFar(distance(target, at).cast_signed()),
-        });
+    if is_in_reach(reloc.kind, target, at) {
+        return Ok(Some(target));
     }
-    Ok(target)
+    findings.add_far(LinkFault {
+        line: reloc.line,
+        col: reloc.col,
+        kind: LinkKind::TooFar(distance(target, at).cast_signed()),
+    });
+    Ok(None)
 }

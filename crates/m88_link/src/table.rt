@@ -1,6 +1,7 @@
 //! Symbols in order of definition, found by their names.
 ghost use Rattle.std.specs.Prelude.{◌≡◌, ◌∷◌, ◌++◌, [], None, IfOk, OnOk, OnErr, option_copied};
 ghost use Rattle.std.specs.Option.{option_map};
+ghost use Rattle.m88_link.specs.Inside.Exports.{withdrawn};
 ghost use Rattle.m88_link.specs.Symbols.{first_repeated, joined, symbol_of};
 
 use crate::object::{Definition, Symbol};
@@ -75,6 +76,20 @@ impl SymbolTable {
             col,
         };
         self.symbols.insert(name, definition)?;
+        Ok(())
+    }
+
+    /// Marks the symbol of a name as not global, where the table has one.
+    pub(crate) fn withdraw(&mut self, name: &Name) -> Result<(), AllocError>
+        ensures { OnOk result (self.new ≡ withdrawn name.now self.old) }
+    {
+        if let Some(found) = self.symbols.get(name) {
+            let definition = Definition {
+                global: false,
+                ..*found
+            };
+            self.symbols.insert(*name, definition)?;
+        }
         Ok(())
     }
 
