@@ -154,6 +154,18 @@ without_cr rest line behind front b is lack last other =
     by_last rest line behind front b is lack last
     ∙ ap (λ (t : Bool). cond t front (front ++ b ∷ []) ∷ lines_of behind) other ∙ ap (λ (l : List ℕ). l ∷ lines_of behind) (sym last)
 
+pub with_cr : (rest line behind front : List ℕ) (b : ℕ) → rest ≡ line ++ 10 ∷ behind → lacks 10 line ≡ true → line ≡ front ++ b ∷ []
+    → b ≡ 13 → lines_of rest ≡ front ∷ lines_of behind
+with_cr rest line behind front b is lack last cr =
+    by_last rest line behind front b is lack last ∙ ap (λ (n : ℕ). cond (n == 13) front (front ++ n ∷ []) ∷ lines_of behind) cr
+
+-- the bytes before the last of those that a text begins with
+pub before_last : (text front : List ℕ) (b n : ℕ) → take n text ≡ front ++ b ∷ [] → take (length front) text ≡ front
+before_last text front b n is =
+    ap (take (length front))
+    (sym (take-append-drop n text) ∙ ap (λ xs. xs ++ drop n text) is ∙ append_assoc front (b ∷ []) (drop n text))
+    ∙ take-append_seam front (b ∷ drop n text)
+
 -- where all pieces were taken there is nothing behind them
 pub all_taken : {X Y : Type 0} (f : X → List Y) (xs : List X) (i : ℕ) (out end : List Y) → length xs ≤ i → out ++ flat_map f (drop i xs) ≡ end → out ≡ end
 all_taken f xs i out end l so_far =

@@ -1,10 +1,11 @@
 -- The column of a number, and that of the next one.
-use Rattle.std.proofs.Common.{◌≡◌, ℕ, zero, suc, ◌+◌, ◌-◌, ◌/◌, ◌%◌, ◌^◌, ◌<◌, ◌≤◌, List, [], ◌∷◌, ◌++◌, length, get_or, set, refl, sym, ap, ◌∙◌, append_assoc, arith, length-append}
+use Rattle.std.proofs.Common.{◌≡◌, ℕ, zero, suc, ◌+◌, ◌-◌, ◌/◌, ◌%◌, ◌^◌, ◌<◌, ◌≤◌, List, [], ◌∷◌, ◌++◌, length, take, drop, get_or, set, refl, sym, ap, ◌∙◌, append_assoc, arith, length-append}
 use Rattle.std.specs.Prelude.{decimal}
 use Rattle.std.proofs.lemmas.Grind.{common_steps}
 use Rattle.std.proofs.lemmas.Fmt.{decimal_digit, decimal_step, length-decimal-le}
 use Rattle.std.proofs.lemmas.List.{length-replicate}
-use Rattle.std.proofs.Math.Seq.{get_or-append_seam, set-append_seam}
+use Rattle.std.proofs.Math.Seq.{drop-append_seam, get_or-append_seam, set-append_seam, take-append_seam}
+use Rattle.m88_base.specs.Lines.{line_end}
 use Rattle.m88_listing.specs.Columns.{at_left, at_right, space_byte, blanks, columns, no_address}
 
 -- what stands before the last digit
@@ -74,3 +75,23 @@ regroup a b c d e f = grind (arith, common_steps)
 
 pub head_is : (n : ℕ) → at_right 7 (decimal n) ++ blanks 33 ≡ columns n no_address []
 head_is n = regroup (at_right 7 (decimal n)) (blanks 2) no_address (blanks 2) (at_left 16 []) (blanks 5)
+
+-- the number alone takes the first seven bytes
+seven : (n : ℕ) → n < 10 ^ 7 → 7 ≡ length (at_right 7 (decimal n))
+seven n small =
+    let f = front (n / 10) in
+    let last = (48 + n % 10) ∷ [] in
+    omega (arith, ap length (parted n (n / 10) refl small), length-append f last, wide (n / 10) (omega (arith, small)))
+
+-- so the columns begin as the line of the number alone does
+pub begun : (line : List ℕ) (n : ℕ) → n < 10 ^ 7 → line ≡ at_right 7 (decimal n) ++ line_end → take 7 line ++ blanks 33 ≡ columns n no_address []
+begun line n small is =
+    let cell = at_right 7 (decimal n) in
+    let number : take 7 line ≡ cell = ap (take 7) is ∙ ap (λ k. take k (cell ++ line_end)) (seven n small) ∙ take-append_seam cell line_end in
+    ap (λ xs. xs ++ blanks 33) number ∙ head_is n
+
+-- and blanks stand behind it
+pub blank_behind : (head : List ℕ) (n : ℕ) → n < 10 ^ 7 → head ≡ columns n no_address [] → drop 7 head ≡ blanks 33
+blank_behind head n small is =
+    let cell = at_right 7 (decimal n) in
+    ap (drop 7) (is ∙ sym (head_is n)) ∙ ap (λ k. drop k (cell ++ blanks 33)) (seven n small) ∙ drop-append_seam cell (blanks 33)

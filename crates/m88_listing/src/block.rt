@@ -40,12 +40,13 @@ impl Block {
     }
 
     /// Puts the first of some bytes behind those that stand in the block, so many of them. There is room for all.
-    pub fn put(&mut self, bytes: &[u8], count: usize)
+    pub fn put<const N: usize>(&mut self, bytes: &[u8; N], count: usize)
         requires room { length self.old + length bytes.now ≤ 1024 }
         requires some { count ≤ length bytes.now }
         ensures { self.new ≡ self.old ++ take count bytes.now }
     {
-        self.bytes[self.len..self.len + bytes.len()].copy_from_slice(bytes);
+        let end = self.len + N;
+        replace(&mut self.bytes[self.len..end], bytes);
         self.len += count;
     }
 
@@ -74,4 +75,15 @@ impl Block {
         self.len = 0;
         Ok(())
     }
+}
+
+/// Puts bytes in the place of as many.
+fn replace<const N: usize>(place: &mut [u8], bytes: &[u8; N])
+    requires { length place.old ≡ N }
+    ensures { place.new ≡ bytes.now }
+{
+    let Some(all) = place.first_chunk_mut::<N>() else {
+        unreachable!();
+    };
+    *all = *bytes;
 }

@@ -1,5 +1,5 @@
 //! The columns of lines that give no bytes, counted on from line to line.
-ghost use Rattle.std.specs.Prelude.{◌≡◌, ◌+◌, ◌<◌, ◌^◌, ◌++◌, [], decimal, length, IfNone, IfSome, MatchOption, OnOk};
+ghost use Rattle.std.specs.Prelude.{◌≡◌, ◌+◌, ◌<◌, ◌^◌, ◌++◌, [], decimal, length, take, IfNone, IfSome, MatchOption, OnOk};
 ghost use Rattle.m88_base.specs.Cut.{Lacks};
 ghost use Rattle.m88_base.specs.Lines.{line_end, line_feed};
 ghost use Rattle.m88_listing.specs.Columns.{at_right, bare_line, columns, no_address};
@@ -42,10 +42,13 @@ impl Column {
         requires { number < 10 ^ 7 }
         ensures { result ≡ number }
     {
+        let alone = alone(number);
+        let mut head = [b' '; 40];
+        head[..7].copy_from_slice(&alone[..7]);
         Column {
             number,
-            alone: alone(number),
-            head: head(number),
+            alone,
+            head,
         }
     }
 
@@ -77,37 +80,55 @@ impl Column {
         requires { number < 10 ^ 7 }
         ensures { self.new ≡ number }
     {
+        let line = alone(number);
         self.number = number;
-        self.alone = alone(number);
-        self.head = head(number);
+        self.head[..7].copy_from_slice(&line[..7]);
+        self.alone = line;
     }
 
     /// Puts the first line of what is left of a source behind its columns into a block that has room for it, and
-    /// answers what is left then. None where that line is long, ends by CR LF, or stands near the end of the source.
+    /// answers what is left then. None where that line is long, or stands near the end of the source.
     pub fn put_short<'a>(&self, block: &mut Block, rest: &'a [u8]) -> Option<&'a [u8]>
         requires { HasRoomForLine block.old }
         ensures some { IfSome result (λ left.
             PushesFirst self.now rest.now block.old block.new left.now) }
         ensures none { IfNone result (block.new ≡ block.old) }
     {
-        let (near, _) = rest.split_at_checked(NEAR)?;
+        let (near, _) = rest.split_first_chunk::<NEAR>()?;
         let len = feed_at(near)?;
-        let (line, _) = near.split_at(len);
+        let (ended, _) = near.split_at(len);
         let (_, left) = rest.split_at(len + 1);
-        match line.split_last() {
+        match ended.split_last() {
             None => {
                 block.put(&self.alone, 8);
                 Some(left)
             }
-            Some((last, _)) => {
+            Some((last, line)) => {
                 if *last == b'\r' {
-                    return None;
+                    self.put_line(block, near, line.len());
+                    return Some(left);
                 }
                 block.put(&self.head, 40);
                 block.put(near, len + 1);
                 Some(left)
             }
         }
+    }
+
+    /// Puts the first of some bytes, so many of them, as a line behind its columns into a block that has room for it.
+    fn put_line(&self, block: &mut Block, bytes: &[u8; NEAR], len: usize)
+        requires room { HasRoomForLine block.old }
+        requires some { len < 64 }
+        ensures { block.new
+            ≡ block.old ++ (bare_line self.now (take len bytes.now) ++ line_end) }
+    {
+        if len == 0 {
+            block.put(&self.alone, 8);
+            return;
+        }
+        block.put(&self.head, 40);
+        block.put(bytes, len);
+        block.put(b"\n", 1);
     }
 
     /// Appends a line of the source behind its columns.
@@ -134,16 +155,6 @@ fn alone(number: u64) -> [u8; 8]
     let mut line = *b"       \n";
     write_digits(number, &mut line, 7);
     line
-}
-
-/// The columns before a line that isn't empty: the number at the right of its column, and blanks.
-fn head(number: u64) -> [u8; 40]
-    requires { number < 10 ^ 7 }
-    ensures { result ≡ columns number no_address [] }
-{
-    let mut head = [b' '; 40];
-    write_digits(number, &mut head, 7);
-    head
 }
 
 /// How many bytes stand before the first line feed of a text; None where it has none.

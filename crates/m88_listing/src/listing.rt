@@ -27,8 +27,8 @@ use m88_link::{LinkFault, LinkKind, Object, link, stand};
 use m88_parse::{ParseFault, ParseKind, Unit, parse};
 use std::alloc::Global;
 
-/// How many times the bytes of a source there is room for from the start, as much as most listings take.
-const ROOM: usize = 4;
+/// How many times the bytes of a source there is room for from the start, as much as lines of one byte take.
+const ROOM: usize = 22;
 
 /// The reply that refuses a source at a line and a column, both from 1, for a reason, with what is kept of the rows
 /// that it shows.

@@ -4,16 +4,16 @@ use Rattle.std.proofs.Math.Seq.{take-append-le}
 use Rattle.std.proofs.lemmas.Bool.{ne_eqb}
 use Rattle.std.proofs.lemmas.List.{nil_from_length}
 use Rattle.m88_base.specs.Lines.{line_end}
-use Rattle.m88_listing.specs.Columns.{at_right, columns, no_address}
+use Rattle.m88_listing.specs.Columns.{at_right, bare_line, columns, no_address}
 use Rattle.m88_listing.specs.Inside.Pushed.{IsFirstFeed}
-use Rattle.m88_listing.proofs.Lines.{empty_first, ended_written, feed_ahead, front_lacks, parted, without_cr}
+use Rattle.m88_listing.proofs.Lines.{before_last, empty_first, ended_written, feed_ahead, front_lacks, parted, with_cr, without_cr}
 use Rattle.m88_listing.proofs.column.Column.put_short.Goals.{After-split_at-2}
 use Rattle.m88_listing.proofs.column.Column.put_short.Goals as goal
 
 whole : (c : After-split_at-2) → c.in_ok-near.near.now ++ c.in_ok-near.field-0-1.now ≡ c.args.rest.now
 whole c =
-    ap (λ xs. xs ++ c.in_ok-near.field-0-1.now) c.in_ok-near.ensures.cases.1
-    ∙ ap (λ xs. take 64 c.args.rest.now ++ xs) c.in_ok-near.ensures.cases.2
+    ap (λ xs. xs ++ c.in_ok-near.field-0-1.now) c.in_ok-near.ensures.cases.0
+    ∙ ap (λ xs. take 64 c.args.rest.now ++ xs) c.in_ok-near.ensures.cases.1
     ∙ take-append-drop 64 c.args.rest.now
 
 front : (c : After-split_at-2) (n : ℕ) → n < length c.in_ok-near.near.now + 1 → take n c.in_ok-near.near.now ≡ take n c.args.rest.now
@@ -32,13 +32,18 @@ shorter : (c : After-split_at-2) → length c.split_at-2.result.1.now < length c
 shorter c =
     omega (arith, ap length c.split_at-2.ensures.back, length-drop (c.in_ok-len.len + 1) c.args.rest.now, (fed c).within)
 
-pub put-requires-in-Some-2-clause-room : goal.put-requires-in-Some-2-clause-room
-put-requires-in-Some-2-clause-room c =
+pub put-requires-in-Some-2 : goal.put-requires-in-Some-2
+put-requires-in-Some-2 c =
     let head = c.self.inside.head in
     let forty : length head ≡ 40 = omega arith in
     let all : c.put-in-Some.new.self ≡ c.args.block.now ++ head =
-    c.put-in-Some.ensures ∙ ap (λ xs. c.args.block.now ++ xs) (take_all 40 head (omega (arith, forty))) in
-    omega (arith, forty, ap length all, length-append c.args.block.now head, c.requires, c.in_ok-near.ensures.cases.3)
+    c.put-in-Some.ensures ∙ ap (λ xs. c.args.block.now ++ xs) (take_all 40 head (omega (arith, forty))) in (
+      omega arith,
+      (
+        omega (arith, forty, ap length all, length-append c.args.block.now head, c.requires),
+        omega (arith, c.in_ok-len.ensures.within),
+      ),
+    )
 
 pub returns-in-None-clause-some : goal.returns-in-None-clause-some
 returns-in-None-clause-some c =
@@ -57,6 +62,25 @@ returns-in-None-clause-some c =
       shorter = shorter k;
     }
 
+pub returns-then-last-eq13-clause-some : goal.returns-then-last-eq13-clause-some
+returns-then-last-eq13-clause-some c =
+    let k = (goal.at.returns-then-last-eq13-clause-some c).After-split_at-2 in
+    let rest = c.args.rest.now in
+    let ended = c.split_at.result.0.now in
+    let line = c.in-Some.line.now in
+    let last = c.in-Some.last.now in
+    record {
+      line = line;
+      lines =
+          with_cr rest ended c.split_at-2.result.1.now line last (parts k) (front_lacks rest ended c.in_ok-len.len (fed k) (cut k))
+          c.in-Some.ensures.cases.0 c.if-last-eq13.true;
+      text =
+          c.put_line.ensures
+          ∙ ap (λ (l : List ℕ). c.args.block.now ++ (bare_line c.args.self.now l ++ line_end))
+          (before_last c.in_ok-near.near.now line last c.in_ok-len.len (sym c.split_at.ensures.front ∙ c.in-Some.ensures.cases.0));
+      shorter = shorter k;
+    }
+
 pub returns-else-last-eq13-clause-some : goal.returns-else-last-eq13-clause-some
 returns-else-last-eq13-clause-some c =
     let k = (goal.at.returns-else-last-eq13-clause-some c).After-split_at-2 in
@@ -67,7 +91,7 @@ returns-else-last-eq13-clause-some c =
     let head = c.self.inside.head in
     let forty : length head ≡ 40 = omega arith in
     let last = c.in-Some.last.now in
-    let before = c.in-Some.field-0-1.now in
+    let before = c.in-Some.line.now in
     record {
       line = line;
       lines =
