@@ -16,9 +16,6 @@ pub mod Showing
 pub mod Verdict
 pub mod Whole
 pub mod Numbering
-pub mod Naming
-pub mod Addressing
 pub mod Settling
 pub mod Reached
-pub mod Linking
 pub mod Refitting

@@ -1,12 +1,9 @@
 -- The references of a unit without what can't be carried out are those that can be, and its objects come to its bytes.
-use Rattle.std.proofs.Common.{◌≡◌, ℕ, ◌+◌, ◌<◌, ◌^◌, Bool, true, false, List, [], ◌∷◌, ◌++◌, map, refl, sym, ap, ◌∙◌, subst, arith, Option, Some, None}
-use Rattle.std.specs.Prelude.{◌==◌, ◌%◌, ◌&&◌, codes, filter, flat_map, if◌then◌else◌, slice_get, unwrap_or}
-use Rattle.std.specs.Option.{option_map_or}
+use Rattle.std.proofs.Common.{◌≡◌, ℕ, ◌+◌, Bool, true, false, List, [], ◌∷◌, ◌++◌, map, refl, sym, ap, ◌∙◌, subst, Some, None}
+use Rattle.std.specs.Prelude.{◌&&◌, filter, flat_map, if◌then◌else◌, unwrap_or}
 use Rattle.std.specs.List.{AllByRecursion, enumerate_from}
 use Rattle.std.proofs.Math.Path.{fun_ext}
-use Rattle.std.proofs.Math.Dec.{lit<}
 use Rattle.std.proofs.lemmas.List.Elements.{All-from_recursion, filter-append, recursion_from_All}
-use Rattle.std.proofs.lemmas.Nat.{mod_below}
 use Rattle.m88_base.specs.Placed.{Placed}
 use Rattle.m88_base.specs.declared.fixup.Kind.TheVariants.{Abs32}
 use Rattle.m88_base.specs.Image.{first_text}
@@ -21,9 +18,10 @@ use Rattle.m88_parse.specs.declared.unit.Value.{Value}
 use Rattle.m88_parse.specs.declared.unit.Value.TheVariants as word
 use Rattle.m88_link.specs.Bases.{Placement, base_at, base_of, section_size, stood, stood_from, text_end, up_to_multiple}
 use Rattle.m88_link.specs.Field.{is_in_reach}
-use Rattle.m88_link.specs.Layout.{globals_of, layout_of, spot, spots_of, value_of_name}
-use Rattle.m88_link.specs.Relocated.{patched, relocated, target_of}
-use Rattle.m88_link.specs.Symbols.{symbol_meaning}
+use Rattle.m88_link.specs.Forced.{forced_layout, is_resolvable, resolvable}
+use Rattle.m88_link.specs.Layout.{layout_at, spot, spots_of, value_of_name}
+use Rattle.m88_link.specs.Relocated.{relocated, target_of}
+use Rattle.m88_link.specs.Symbols.{is_known, symbol_meaning}
 use Rattle.m88_link.specs.declared.object.Object.{Object}
 use Rattle.m88_link.specs.declared.object.Place.{Place}
 use Rattle.m88_link.specs.declared.object.Place.TheVariants.{Text, DataSection, At}
@@ -33,12 +31,12 @@ use Rattle.m88_link.specs.declared.object.Symbol.{Symbol}
 use Rattle.m88_asm.specs.Counters.{Counters, Located, after, at_begin, located, offset_of, section_of}
 use Rattle.m88_asm.specs.Objects.{lines_in, objects_of, sections_in, symbols_in, symbol_uses, uses_in_body, uses_in_values, use_at}
 use Rattle.m88_asm.specs.Units.{address_in, base_in, based, section_length, unit_layout, value_in_module}
+use Rattle.m88_link.proofs.Laws.{base_same, forced_globals, value_same}
 use Rattle.m88_asm.proofs.Laws.{AllFormed, CanFill, EachBased, all_stood, formed, placement, same_base}
 use Rattle.m88_asm.proofs.Composing.{globals_law, spots_law}
 use Rattle.m88_asm.proofs.Relocating.{AreInReach}
-use Rattle.m88_listing.specs.Inside.Carrying.{is_kept, kept_relocs, settled_object, settled_objects, to_number}
-use Rattle.m88_listing.specs.Settled.{is_carried_out, is_known, settled_body, settled_module, settled_statement, settled_unit, settled_value}
-use Rattle.m88_listing.proofs.Settling.{all_same, base_settled, globals_settled, lines_settled, made, made_stood, offset_same, section_same, sections_settled, settled_base, settled_line, symbols_settled, unit_stands}
+use Rattle.m88_listing.specs.Settled.{is_carried_out, settled_body, settled_module, settled_statement, settled_unit, settled_value}
+use Rattle.m88_listing.proofs.Settling.{all_same, base_settled, globals_settled, lines_settled, offset_same, section_same, sections_settled, settled_base, settled_line, symbols_settled, unit_stands}
 
 -- a use of a symbol can be carried out
 abbrev pub is_reached : List Symbol → Placement Module → Reloc → Bool
@@ -200,104 +198,64 @@ unit_fills u well =
     (each_settled g first_text (up_to_multiple page_bytes (text_end section_length first_text u.modules)) u.modules
     (recursion_from_All IsFormedModule u.modules well.each)))
 
--- relocations to numbers come to what the relocations come to
-pub numbered_target : (globals : List Symbol) (value : List ℕ → ℕ) (p : Placement Object) (r : Reloc) → value (codes "zero") ≡ 0
-    → target_of value (to_number globals p r) ≡ target_of (value_of_name globals p) r
-numbered_target globals value p r zero =
-    let t = target_of (value_of_name globals p) r in
-    ap (λ (n : ℕ). (n + t) % 2 ^ 32) zero ∙ low t (mod_below (value_of_name globals p r.symbol + r.addend) (2 ^ 32) (lit< tt))
-  where
-    low : (t : ℕ) → t < 2 ^ 32 → (0 + t) % 2 ^ 32 ≡ t
-    low t l = omega (arith, l)
-
-numbered_bytes : (globals : List Symbol) (value : List ℕ → ℕ) (p : Placement Object) (base : ℕ → ℕ) (k : ℕ) (rs : List Reloc) (bytes : List ℕ)
-    → value (codes "zero") ≡ 0 → relocated value base k (map (to_number globals p) rs) bytes ≡ relocated (value_of_name globals p) base k rs bytes
-numbered_bytes globals value p base k [] bytes zero = refl
-numbered_bytes globals value p base k (r ∷ rs) bytes zero =
-    ap (λ (t : ℕ). relocated value base k (map (to_number globals p) rs) (if r.section == k then patched r.kind bytes r.offset t (base k + r.offset) else bytes))
-    (numbered_target globals value p r zero)
-    ∙ numbered_bytes globals value p base k rs _ zero
-
 -- the object of a module without what can't be carried out, and the object with what can be
 same_value : (g : List Symbol) (b : Placement Module) → value_of_name g (placement b) ≡ value_in_module g b
 same_value g b = ap (λ (f : ℕ → ℕ). λ (name : List ℕ). unwrap_or (symbol_meaning g f (symbols_in b.part) name) 0) (same_base b)
 
-kept_same : (g : List Symbol) (b : Placement Module) → is_kept g (placement b) ≡ is_reached g b
-kept_same g b = fun_ext (λ r.
+resolvable_same : (g : List Symbol) (b : Placement Module) → is_resolvable g (placement b) ≡ is_reached g b
+resolvable_same g b = fun_ext (λ r.
     ap (λ (v : List ℕ → ℕ). is_known g (symbols_in b.part) r.symbol && is_in_reach r.kind (target_of v r) (base_of (placement b) r.section + r.offset)) (same_value g b)
     ∙ ap (λ (f : ℕ → ℕ). is_known g (symbols_in b.part) r.symbol && is_in_reach r.kind (target_of (value_in_module g b) r) (f r.section + r.offset)) (same_base b))
 
--- the object that is linked instead, where it stands
-abbrev pub linked_base : List Symbol → Placement Object → Placement Object
-linked_base g p = record { part = settled_object g p; text_at = p.text_at; data_at = p.data_at }
-
-zero_here : (h g : List Symbol) (p : Placement Object) → value_of_name h (linked_base g p) (codes "zero") ≡ 0
-zero_here h g p = refl
-
+-- where they stand
 same_place : (g : List Symbol) (b : Placement Module) (p : Place)
-    → base_at (linked_base g (placement b)) p ≡ base_at (placement (settled_base g b)) p
+    → base_at (resolvable g (placement b)) p ≡ base_at (placement (settled_base g b)) p
 same_place g b Text = refl
 same_place g b DataSection = refl
 same_place g b (At a) = refl
 
-base_same : (g : List Symbol) (b : Placement Module) → base_of (linked_base g (placement b)) ≡ base_of (placement (settled_base g b))
-base_same g b = fun_ext (λ k.
-    by (slice_get (sections_in b.part) k)
-    ∙ ap (λ (xs : List Section). option_map_or (λ (x : Section). base_at (placement (settled_base g b)) x.place) (slice_get xs k) 0) (sym (sections_settled g b)))
-  where
-    by : (o : Option Section)
-        → option_map_or (λ (x : Section). base_at (linked_base g (placement b)) x.place) o 0
-        ≡ option_map_or (λ (x : Section). base_at (placement (settled_base g b)) x.place) o 0
-    by None = refl
-    by (Some x) = same_place g b x.place
+bases_same : (g : List Symbol) (b : Placement Module) → base_of (resolvable g (placement b)) ≡ base_of (placement (settled_base g b))
+bases_same g b = base_same g (placement b) ∙ same_base b ∙ sym (base_settled g b) ∙ sym (same_base (settled_base g b))
 
 -- a section comes to the same bytes
-spot_same : (h g : List Symbol) (b : Placement Module) (k : ℕ) (x : Section)
-    → spot h (linked_base g (placement b)) k x ≡ spot g (placement (settled_base g b)) k x
-spot_same h g b k x =
-    let uses = flat_map symbol_uses (lines_in b.part) in
-    let p = placement b in
+spot_same : (g : List Symbol) (b : Placement Module) (k : ℕ) (x : Section)
+    → spot g (resolvable g (placement b)) k x ≡ spot g (placement (settled_base g b)) k x
+spot_same g b k x =
+    let p = resolvable g (placement b) in
     let q = placement (settled_base g b) in
-    let left : filter (is_kept g p) uses ≡ flat_map symbol_uses (lines_in (settled_module g b)) =
-    ap (λ (t : Reloc → Bool). filter t uses) (kept_same g b) ∙ sym (module_reached g b) in
-    let value : value_of_name g p ≡ value_of_name g q = same_value g b ∙ sym (value_settled g b) ∙ sym (same_value g (settled_base g b)) in
-    let bytes : relocated (value_of_name h (linked_base g p)) (base_of (linked_base g p)) k (kept_relocs g p uses) x.bytes
+    let uses = flat_map symbol_uses (lines_in b.part) in
+    let left : filter (is_resolvable g (placement b)) uses ≡ flat_map symbol_uses (lines_in (settled_module g b)) =
+    ap (λ (t : Reloc → Bool). filter t uses) (resolvable_same g b) ∙ sym (module_reached g b) in
+    let value : value_of_name g p ≡ value_of_name g q =
+    value_same g g (placement b) ∙ same_value g b ∙ sym (value_settled g b) ∙ sym (same_value g (settled_base g b)) in
+    let bytes : relocated (value_of_name g p) (base_of p) k (filter (is_resolvable g (placement b)) uses) x.bytes
     ≡ relocated (value_of_name g q) (base_of q) k (flat_map symbol_uses (lines_in (settled_module g b))) x.bytes =
-    numbered_bytes g (value_of_name h (linked_base g p)) p (base_of (linked_base g p)) k (filter (is_kept g p) uses) x.bytes (zero_here h g p)
-    ∙ ap (λ (us : List Reloc). relocated (value_of_name g p) (base_of (linked_base g p)) k us x.bytes) left
-    ∙ ap (λ (v : List ℕ → ℕ). relocated v (base_of (linked_base g p)) k (flat_map symbol_uses (lines_in (settled_module g b))) x.bytes) value
-    ∙ ap (λ (f : ℕ → ℕ). relocated (value_of_name g q) f k (flat_map symbol_uses (lines_in (settled_module g b))) x.bytes) (base_same g b) in
-    ap (λ (n : ℕ). let s : Placed = record { at = n; bytes = relocated (value_of_name h (linked_base g p)) (base_of (linked_base g p)) k (kept_relocs g p uses) x.bytes } in s)
+    ap (λ (us : List Reloc). relocated (value_of_name g p) (base_of p) k us x.bytes) left
+    ∙ ap (λ (v : List ℕ → ℕ). relocated v (base_of p) k (flat_map symbol_uses (lines_in (settled_module g b))) x.bytes) value
+    ∙ ap (λ (f : ℕ → ℕ). relocated (value_of_name g q) f k (flat_map symbol_uses (lines_in (settled_module g b))) x.bytes) (bases_same g b) in
+    ap (λ (n : ℕ). let s : Placed = record { at = n; bytes = relocated (value_of_name g p) (base_of p) k (filter (is_resolvable g (placement b)) uses) x.bytes } in s)
     (same_place g b x.place)
     ∙ ap (λ (bs : List ℕ). let s : Placed = record { at = base_at q x.place; bytes = bs } in s) bytes
 
-spots_same : (h g : List Symbol) (b : Placement Module) → spots_of h (linked_base g (placement b)) ≡ spots_of g (placement (settled_base g b))
-spots_same h g b =
-    ap (λ (f : ℕ × Section → Placed). map f (enumerate_from 0 (sections_in b.part))) (fun_ext (λ e. spot_same h g b e.0 e.1))
+spots_same : (g : List Symbol) (b : Placement Module) → spots_of g (resolvable g (placement b)) ≡ spots_of g (placement (settled_base g b))
+spots_same g b =
+    ap (λ (f : ℕ × Section → Placed). map f (enumerate_from 0 (sections_in b.part))) (fun_ext (λ e. spot_same g b e.0 e.1))
     ∙ ap (λ (xs : List Section). map (λ (e : ℕ × Section). spot g (placement (settled_base g b)) e.0 e.1) (enumerate_from 0 xs)) (sym (sections_settled g b))
-
--- where the objects that are linked instead stand
-pub same_sizes : (g : List Symbol) (k : ℕ) (p : Placement Object) → section_size k (settled_object g p) ≡ section_size k p.part
-same_sizes g k p = refl
 
 map_twice : {A B C : Type 0} (f : B → C) (h : A → B) (xs : List A) → map f (map h xs) ≡ map (λ x. f (h x)) xs
 map_twice f h [] = refl
 map_twice f h (x ∷ xs) = ap (λ ys. f (h x) ∷ ys) (map_twice f h xs)
 
--- the sections of the objects that are linked instead are those of the unit without what can't be carried out
-pub linked_spots : (u : Source) → IsWellFormed u
-    → (layout_of (settled_objects (objects_of u))).spots ≡ (unit_layout (settled_unit u)).spots
+-- the sections of the forced layout are those of the unit without what can't be carried out
+pub linked_spots : (u : Source) → IsWellFormed u → (forced_layout (objects_of u)).spots ≡ (unit_layout (settled_unit u)).spots
 linked_spots u well =
     let g = (unit_layout u).globals in
     let ps = stood section_size (objects_of u) in
-    let qs = map (made (settled_object g)) ps in
-    let h = flat_map globals_of qs in
-    ap (λ (k : List Symbol). (layout_of (map (settled_object k) ps)).spots) (globals_law u)
-    ∙ ap (λ (ss : List (Placement Object)). flat_map (spots_of (flat_map globals_of ss)) ss)
-    (made_stood section_size section_size (settled_object g) (same_sizes g) (objects_of u))
-    ∙ ap (λ (ss : List (Placement Object)). flat_map (spots_of h) (map (made (settled_object g)) ss)) (all_stood u)
-    ∙ ap (flat_map (spots_of h)) (map_twice (made (settled_object g)) placement (based u))
-    ∙ all_same (spots_of h) (λ (b : Placement Module). spots_of g (placement (settled_base g b))) (λ (b : Placement Module). linked_base g (placement b)) (spots_same h g) (based u)
+    ap (λ (k : List Symbol). (layout_at (map (resolvable k) ps)).spots) (globals_law u)
+    ∙ ap (λ (k : List Symbol). flat_map (spots_of k) (map (resolvable g) ps)) (forced_globals g ps ∙ globals_law u)
+    ∙ ap (λ (ss : List (Placement Object)). flat_map (spots_of g) (map (resolvable g) ss)) (all_stood u)
+    ∙ ap (flat_map (spots_of g)) (map_twice (resolvable g) placement (based u))
+    ∙ all_same (spots_of g) (λ (b : Placement Module). spots_of g (placement (settled_base g b))) (λ (b : Placement Module). resolvable g (placement b)) (spots_same g) (based u)
     ∙ sym (all_same (spots_of g) (λ (b : Placement Module). spots_of g (placement (settled_base g b))) (λ (b : Placement Module). placement (settled_base g b)) (λ b. refl) (based u))
     ∙ ap (flat_map (spots_of g)) (sym (map_twice placement (settled_base g) (based u)))
     ∙ ap (λ (bs : List (Placement Module)). flat_map (spots_of g) (map placement bs)) (sym (unit_stands u))

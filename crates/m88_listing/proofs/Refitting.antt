@@ -1,5 +1,5 @@
 -- The rows of a unit without what can't be carried out, and the image that its objects are linked into instead.
-use Rattle.std.proofs.Common.{◌≡◌, ℕ, ◌+◌, List, [], ◌∷◌, map, refl, sym, ap, ◌∙◌, subst, arith, false, inl, inr}
+use Rattle.std.proofs.Common.{◌≡◌, ℕ, ◌+◌, List, [], ◌∷◌, map, refl, sym, ap, ◌∙◌, subst, arith, Bool, true, false, inl, inr}
 use Rattle.std.specs.List.{AllByRecursion}
 use Rattle.m88_base.specs.Image.{IsImage, ProgramImage, byte_at}
 use Rattle.m88_base.specs.Placed.{Placed, byte_among}
@@ -10,12 +10,17 @@ use Rattle.m88_parse.specs.declared.unit.Unit.{Unit as Source}
 use Rattle.m88_link.specs.Bases.{Placement}
 use Rattle.m88_base.specs.Refusal.{Refusal}
 use Rattle.m88_parse.specs.Language.Units.{IsUnit}
-use Rattle.m88_link.specs.Layout.{Layout, layout_of}
+use Rattle.m88_link.specs.Forced.{IsAllocated, forced_layout}
+use Rattle.m88_link.specs.Layout.{Layout, Reference}
 use Rattle.m88_link.specs.Linked.{IsLinked}
-use Rattle.std.specs.Prelude.{◌⊎◌}
+use Rattle.std.specs.Prelude.{◌⊎◌, IfSome, None, Option, Some, if◌then◌else◌}
+use Rattle.std.specs.Int.{w32, cast_signed}
+use Rattle.std.specs.Option.{option_map, option_map_or, option_or}
 use Rattle.m88_link.specs.Faults.{memory_fault}
 use Rattle.m88_link.specs.Reasons.{link_reason}
-use Rattle.m88_link.specs.Refusal.{AreDisjoint, IsRefused, is_too_large}
+use Rattle.m88_link.specs.Field.{distance, is_in_reach}
+use Rattle.m88_link.specs.Refusal.{AreDisjoint, IsRefused, duplicate, duplicate_fault, far_from, first_fault, is_too_large, symbol_fault, too_far, too_far_in, undefined, undefined_in}
+use Rattle.m88_link.specs.Symbols.{Repetition, first_repeated}
 use Rattle.m88_link.specs.declared.fault.LinkFault.{LinkFault}
 use Rattle.m88_link.specs.declared.fault.LinkKind.{LinkKind}
 use Rattle.m88_link.specs.declared.fault.LinkKind.TheVariants as kind
@@ -26,7 +31,6 @@ use Rattle.m88_asm.specs.Objects.{objects_of}
 use Rattle.m88_asm.specs.Sources.{link_kind_behind, link_refusal}
 use Rattle.m88_asm.specs.Units.{address_in, base_in, based, unit_layout}
 use Rattle.m88_asm.proofs.Laws.{AllFormed, EachBased, runs_law}
-use Rattle.m88_listing.specs.Inside.Carrying.{settled_objects}
 use Rattle.m88_listing.specs.Inside.Slots.{AllFit, ModuleFits, IsSlot, kept_row, slots_of}
 use Rattle.m88_listing.specs.Answer.{IsRefusedWith}
 use Rattle.m88_listing.specs.Inside.Replies.{IsOfName}
@@ -39,7 +43,7 @@ use Rattle.m88_listing.proofs.Settling.{base_settled, fault_settled, length_same
 
 -- the image is that of the unit without what can't be carried out, but for its start
 pub settled_laid : (u : Source) (image : ProgramImage) → IsWellFormed u → IsAssembled u → AreDisjoint (unit_layout u).extents → IsImage image
-    → IsLinked (layout_of (settled_objects (objects_of u))) image → IsLaid (settled_unit u) image
+    → IsLinked (forced_layout (objects_of u)) image → IsLaid (settled_unit u) image
 settled_laid u image well clean apart is linked =
     let v = settled_unit u in
     let disjoint : AreDisjoint (unit_layout v).extents = subst AreDisjoint (sym (unit_extents u)) apart in
@@ -132,6 +136,54 @@ pub no_rows : (u : Source) (k : LinkKind) → LacksRoom k → [] ≡ unlinked_ro
 no_rows u k (inl e) = ap (unlinked_rows u) (sym e)
 no_rows u k (inr e) = ap (unlinked_rows u) (sym e.1)
 
-pub memory_apart : (fault : LinkFault) → fault ≡ memory_fault → LacksRoom fault.kind → ⊥
-memory_apart fault memory (inl e) = let clash : kind.Memory ≡ kind.TooLarge = sym (ap (λ (f : LinkFault). f.kind) memory) ∙ e in absurd cc
-memory_apart fault memory (inr e) = let clash : kind.Memory ≡ kind.Overlap e.0 = sym (ap (λ (f : LinkFault). f.kind) memory) ∙ e.1 in absurd cc
+-- a layout that is refused doesn't have its room, where one that has it would be answered otherwise
+pub lacks_room : (l : Layout) (fault : LinkFault) → IsRefused l fault → (IsAllocated l → fault ≡ memory_fault) → LacksRoom fault.kind ⊎ (fault ≡ memory_fault)
+lacks_room l fault (inl h) memory = inl (inl (ap (λ (f : LinkFault). f.kind) h.1))
+lacks_room l fault (inr (inl h)) memory = inl (inr (h.1.at, ap (λ (f : LinkFault). f.kind) h.1.told))
+lacks_room l fault (inr (inr h)) memory = inr (memory (h.0, h.1))
+
+-- a fault that names a symbol is that of a name or a distance
+IsNamed : Option LinkFault → Type 0
+IsNamed o = IfSome o (λ f. IsOfName f.kind)
+
+first_named : (o r : Option LinkFault) → IsNamed o → IsNamed r → IsNamed (option_or o r)
+unfolding IsNamed
+first_named None r h k = k
+first_named (Some f) r h k = h
+
+undefined_named : (u : Reference) → IsNamed (undefined_in u)
+unfolding IsNamed
+undefined_named u = by u.target
+  where
+    by : (o : Option ℕ) → IfSome {T = LinkFault} (option_map_or (λ _. None) o (Some (record { line = u.line; col = u.col; kind = kind.Undefined u.name }))) (λ f. IsOfName f.kind)
+    by None = tt
+    by (Some n) = tt
+
+far_named : (u : Reference) → IsNamed (too_far_in u)
+unfolding IsNamed
+far_named u = by u.target
+  where
+    far : (t : Bool) (n : ℕ) → IfSome {T = LinkFault} (if t then None else Some (record { line = u.line; col = u.col; kind = kind.TooFar (cast_signed w32 (distance n u.at)) })) (λ f. IsOfName f.kind)
+    far true n = tt
+    far false n = tt
+
+    by : (o : Option ℕ) → IfSome (option_map_or (far_from u) o None) (λ f. IsOfName f.kind)
+    by None = tt
+    by (Some n) = far (is_in_reach u.kind n u.at) n
+
+all_named : (find : Reference → Option LinkFault) → ((u : Reference) → IsNamed (find u)) → (us : List Reference) → IsNamed (first_fault find us)
+unfolding IsNamed
+all_named find each [] = tt
+all_named find each (u ∷ us) = first_named (find u) (first_fault find us) (each u) (all_named find each us)
+
+duplicate_named : (o : Option Repetition) → IsNamed (option_map duplicate_fault o)
+unfolding IsNamed
+duplicate_named None = tt
+duplicate_named (Some r) = tt
+
+pub named_kind : (l : Layout) (fault : LinkFault) → symbol_fault l ≡ Some fault → IsOfName fault.kind
+unfolding IsNamed
+named_kind l fault h =
+    subst IsNamed h
+    (first_named (duplicate l.globals) (option_or (undefined l.references) (too_far l.references)) (duplicate_named (first_repeated l.globals))
+    (first_named (undefined l.references) (too_far l.references) (all_named undefined_in undefined_named l.references) (all_named too_far_in far_named l.references)))

@@ -19,7 +19,7 @@ use Rattle.m88_parse.specs.declared.unit.Value.TheVariants as word
 use Rattle.m88_link.specs.Bases.{Placement, base_at, stood, stood_from, text_end, up_to_multiple}
 use Rattle.m88_link.specs.Layout.{Extent}
 use Rattle.m88_link.specs.Sound.{start_name}
-use Rattle.m88_link.specs.Symbols.{exported, repeated_after, value_in}
+use Rattle.m88_link.specs.Symbols.{exported, is_known, repeated_after, value_in}
 use Rattle.m88_link.specs.declared.object.Place.{Place}
 use Rattle.m88_link.specs.declared.object.Place.TheVariants.{Text, DataSection, At}
 use Rattle.m88_link.specs.declared.object.Section.{Section}
@@ -33,7 +33,7 @@ use Rattle.m88_asm.specs.declared.fault.AsmFault.{AsmFault}
 use Rattle.m88_asm.specs.declared.fault.AsmKind.TheVariants as kind
 use Rattle.m88_listing.specs.Inside.Slots.{slots_at, slots_from, slots_of}
 use Rattle.m88_listing.specs.Rows.{named_by, shown_as}
-use Rattle.m88_listing.specs.Settled.{is_known, settled_body, settled_module, settled_statement, settled_unit, settled_value}
+use Rattle.m88_listing.specs.Settled.{settled_body, settled_module, settled_statement, settled_unit, settled_value}
 use Rattle.m88_listing.specs.declared.slots.Shown.{Shown}
 use Rattle.m88_listing.specs.declared.slots.Shown.TheVariants as shown
 use Rattle.m88_listing.specs.declared.slots.Slot.{Slot}

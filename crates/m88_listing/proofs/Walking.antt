@@ -1,7 +1,8 @@
 -- The lines of a source with what is kept of their rows, up to a number.
 use Rattle.std.proofs.Common.{◌≡◌, ℕ, zero, suc, ◌+◌, ◌-◌, ◌<◌, ◌≤◌, Bool, true, false, inl, inr, List, [], ◌∷◌, ◌++◌, length, length-drop, map, take, drop, drop-drop, refl, sym, ap, ◌∙◌, subst, append_assoc, arith, get_or, min, take_all, drop_of_length-le, Option}
-use Rattle.std.specs.Prelude.{◌==◌, ◌⊎◌, flat_map, nat_lt, if◌then◌else◌}
+use Rattle.std.specs.Prelude.{◌==◌, ◌⊎◌, flat_map, nat_lt, slice_index_or, if◌then◌else◌}
 use Rattle.std.specs.List.{AllByRecursion, enumerate_from}
+use Rattle.std.specs.List.Sorted.{IsNonDecreasingBy, IsPartitionPoint}
 use Rattle.std.proofs.lemmas.Bool.{cases_lt, ltb-false, ltb-true, ne_eqb}
 use Rattle.std.proofs.lemmas.List.{drop_more}
 use Rattle.m88_base.specs.Lines.{line_end, lines_of, text_of_lines}
@@ -258,6 +259,35 @@ climb_behind n m (s ∷ ss) h = by (nat_lt s.line n) refl (climb_behind n (s.lin
         → Climb m (if t then rest else s ∷ ss) × Climb n (if t then rest else s ∷ ss)
     by true e more = (lower_climb m (s.line + 1) rest (omega (arith, h.0)) more.0, more.1)
     by false e more = ((h.0, h.1), (ltb-false s.line n e, h.1))
+
+-- slots that climb rise
+climb_low : (from : ℕ) (ss : List Slot) (k : ℕ) (d : Slot) → Climb from ss → k < length ss → from ≤ (slice_index_or ss k d).line
+climb_low from [] k d h l = absurd (omega (arith, l))
+climb_low from (s ∷ ss) zero d h l = h.0
+climb_low from (s ∷ ss) (suc k) d h l = omega (arith, h.0, climb_low (s.line + 1) ss k d h.1 (omega (arith, l)))
+
+pub climb_rises : (from : ℕ) (ss : List Slot) → Climb from ss → IsNonDecreasingBy (λ s. s.line) ss
+climb_rises from [] h i j d le l = absurd (omega (arith, l))
+climb_rises from (s ∷ ss) h zero zero d le l = omega arith
+climb_rises from (s ∷ ss) h zero (suc j) d le l = omega (arith, climb_low (s.line + 1) ss j d h.1 (omega (arith, l)))
+climb_rises from (s ∷ ss) h (suc i) zero d le l = absurd (omega (arith, le))
+climb_rises from (s ∷ ss) h (suc i) (suc j) d le l = climb_rises (s.line + 1) ss h.1 i j d (omega (arith, le)) (omega (arith, l))
+
+-- those behind the last that is before a number
+point_behind : (n : ℕ) (ss : List Slot) (i : ℕ) → i ≤ length ss → ((k : ℕ) (d : Slot) → 0 ≤ k → k < i → nat_lt (slice_index_or ss k d).line n ≡ true)
+    → ((k : ℕ) (d : Slot) → i ≤ k → k < length ss → nat_lt (slice_index_or ss k d).line n ≡ false) → drop i ss ≡ slots_behind n ss
+point_behind n [] zero l before behind = refl
+point_behind n [] (suc i) l before behind = refl
+point_behind n (s ∷ ss) zero l before behind =
+    ap (λ (t : Bool). if t then slots_behind n ss else s ∷ ss) (sym (behind 0 s (omega arith) (omega arith)))
+point_behind n (s ∷ ss) (suc i) l before behind =
+    point_behind n ss i (omega (arith, l)) (λ k d low high. before (suc k) d (omega arith) (omega (arith, high)))
+    (λ k d low high. behind (suc k) d (omega (arith, low)) (omega (arith, high)))
+    ∙ ap (λ (t : Bool). if t then slots_behind n ss else s ∷ ss) (sym (before 0 s (omega arith) (omega arith)))
+
+pub cut_behind : (n : ℕ) (ss : List Slot) (i : ℕ) → i ≤ length ss
+    → IsPartitionPoint (λ (s : Slot). nat_lt s.line n ≡ true) (λ (s : Slot). nat_lt s.line n ≡ false) ss i → drop i ss ≡ slots_behind n ss
+cut_behind n ss i l h = point_behind n ss i l h.0 h.1
 
 -- the lines of a source from a number on are those with the rows of all slots
 same_lines : (found : ℕ → Option ℕ) (n j : ℕ) (all : List Slot) (lines : List (List ℕ)) → n ≤ j

@@ -1,6 +1,5 @@
 -- Words for the contracts of private functions alone: no promise of the program names them.
 pub mod Parts
-pub mod Carrying
 pub mod Replies
 pub mod Slots
 pub mod Pushed

@@ -1,7 +1,7 @@
 -- A unit that the linker refuses for a name or a distance, without what can't be carried out of it: a reference is 0
 -- where its name doesn't mean just one thing, or its field can't take the distance. The listing of the source shows the
 -- rows of that unit.
-use Rattle.std.specs.Prelude.{ℕ, ◌==◌, ◌&&◌, ◌||◌, Bool, bytes_eq, count_by, if◌then◌else◌, List, [], is_some, map, None, Some}
+use Rattle.std.specs.Prelude.{ℕ, ◌&&◌, Bool, if◌then◌else◌, List, [], map, None, Some}
 use Rattle.m88_base.specs.declared.fixup.Fixup.{Fixup}
 use Rattle.m88_parse.specs.declared.unit.Body.{Body}
 use Rattle.m88_parse.specs.declared.unit.Body.TheVariants.{Code, Word}
@@ -12,7 +12,7 @@ use Rattle.m88_parse.specs.declared.unit.Value.{Value}
 use Rattle.m88_parse.specs.declared.unit.Value.TheVariants.{Number, Symbol as Symbolic}
 use Rattle.m88_link.specs.Bases.{Placement}
 use Rattle.m88_link.specs.Field.{is_in_reach}
-use Rattle.m88_link.specs.Symbols.{symbol_of}
+use Rattle.m88_link.specs.Symbols.{is_known}
 use Rattle.m88_link.specs.declared.fault.LinkKind.{LinkKind}
 use Rattle.m88_link.specs.declared.fault.LinkKind.TheVariants as kind
 use Rattle.m88_link.specs.declared.object.Symbol.{Symbol}
@@ -21,10 +21,6 @@ use Rattle.m88_asm.specs.Filled.{target}
 use Rattle.m88_asm.specs.Objects.{lines_in, symbols_in}
 use Rattle.m88_asm.specs.Units.{address_in, based, unit_layout, value_in_module}
 use Rattle.m88_listing.specs.Rows.{Row, rows_of_unit}
-
--- a name means one thing among symbols and global symbols: it is one of the symbols, or one global symbol alone has it
-abbrev pub is_known : List Symbol → List Symbol → List ℕ → Bool
-is_known globals symbols name = is_some (symbol_of symbols name) || count_by (λ g. bytes_eq name g.name) globals == 1
 
 -- a reference of a module can be carried out at an address: its name means one thing, and its field can take that
 abbrev pub is_carried_out : List Symbol → Placement Module → ℕ → Fixup → Bool

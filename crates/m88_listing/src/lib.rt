@@ -6,8 +6,6 @@
 mod cursor;
 mod entries;
 mod layout;
-mod names;
-mod settled;
 mod slots;
 mod standing;
 mod sums;

@@ -1,9 +1,12 @@
 //! The text for a source: its listing, or the text that refuses it.
-ghost use Rattle.std.specs.Prelude.{◌≡◌, ◌≢◌, ◌≤◌, ◌⊎◌, [], IfOk, length, map};
+ghost use Rattle.std.specs.Prelude.{◌≡◌, ◌≢◌, ◌≤◌, [], IfOk, length, map};
 ghost use Rattle.std.specs.List.{All};
-ghost use Rattle.m88_base.specs.Image.{byte_at};
+ghost use Rattle.m88_base.specs.Image.{IsImage, byte_at};
 ghost use Rattle.m88_parse.specs.Fault.{out_of_memory, reason};
 ghost use Rattle.m88_link.specs.Faults.{memory_fault};
+ghost use Rattle.m88_link.specs.Forced.{forced_layout};
+ghost use Rattle.m88_link.specs.Linked.{IsLinked};
+ghost use Rattle.m88_link.specs.Reasons.{link_reason};
 ghost use Rattle.m88_asm.specs.Fault.{memory_ran_out};
 ghost use Rattle.m88_asm.specs.Reasons.{asm_reason};
 ghost use Rattle.m88_asm.specs.Sources.{IsRefusedSource};
@@ -17,13 +20,12 @@ use crate::entries::{labels, numbers, push_entries};
 use crate::layout::slots;
 use crate::refused::push_refusal;
 use crate::rows::push_source;
-use crate::settled::settled_image;
 use crate::slots::Slot;
 use crate::standing::standings;
 use crate::sums::push_sums;
 use m88_asm::{AsmFault, AsmKind, assemble};
 use m88_base::{Image, NoMemory, Reply};
-use m88_link::{LinkFault, LinkKind, Object, link, stand};
+use m88_link::{LinkFault, LinkKind, Object, link_forced, stand};
 use m88_parse::{ParseFault, ParseKind, Unit, parse};
 use std::alloc::Global;
 
@@ -107,22 +109,40 @@ fn unassembled(alloc: Global, source: &[u8], fault: AsmFault) -> Result<Reply, N
     refuse_bare(alloc, source, fault.line, fault.col, reason.as_bytes())
 }
 
+/// The reply for a fault of the unit's layout by which its sections don't have their room, unless the fault is that
+/// memory ran out.
+fn unplaced(alloc: Global, source: &[u8], fault: LinkFault) -> Result<Reply, NoMemory>
+    requires { length source.now ≤ most_input }
+    ensures refused { IsRefusedWith source.now
+        (record { line = fault.line; column = fault.col; reason = link_reason fault.kind }) []
+        → IfOk result (ListsAs source.now) }
+    ensures told { IfOk result (λ _. fault ≢ memory_fault) }
+{
+    if fault.kind == LinkKind::Memory {
+        return Err(NoMemory);
+    }
+    let reason = fault.kind.to_string(alloc)?;
+    refuse_bare(alloc, source, fault.line, fault.col, reason.as_bytes())
+}
+
 /// The reply for a fault of the unit's layout by which a name or a distance is refused, with the rows of what can be
-/// carried out.
+/// carried out, whose bytes the image has.
 fn unnamed(
     alloc: Global,
     source: &[u8],
     unit: &Unit,
     objects: &[Object],
+    image: &Image,
     fault: LinkFault,
 ) -> Result<Reply, NoMemory>
     requires short { length source.now ≤ most_input }
     requires unlinked { IsUnlinkedUnit source.now unit.now objects.now fault }
     requires kind { IsOfName fault.kind }
+    requires image { IsImage image.now }
+    requires linked { IsLinked (forced_layout objects.now) image.now }
     ensures { IfOk result (ListsAs source.now) }
 {
     let placements = stand(alloc, objects)?;
-    let image = settled_image(alloc, objects, placements.as_slice())?;
     let standings = standings(alloc, unit, placements.as_slice())?;
     let slots = slots(alloc, standings.as_slice())?;
     let reason = fault.kind.to_string(alloc)?;
@@ -130,36 +150,11 @@ fn unnamed(
         alloc,
         source,
         slots.as_slice(),
-        &image,
+        image,
         fault.line,
         fault.col,
         reason.as_bytes(),
     )
-}
-
-/// The reply for a fault of the unit's layout, unless the fault is that memory ran out.
-fn unlinked(
-    alloc: Global,
-    source: &[u8],
-    unit: &Unit,
-    objects: &[Object],
-    fault: LinkFault,
-) -> Result<Reply, NoMemory>
-    requires short { length source.now ≤ most_input }
-    requires unlinked { (fault ≡ memory_fault)
-        ⊎ IsUnlinkedUnit source.now unit.now objects.now fault }
-    ensures { IfOk result (ListsAs source.now) }
-{
-    match fault.kind {
-        LinkKind::Memory => Err(NoMemory),
-        LinkKind::TooLarge | LinkKind::Overlap(_) => {
-            let reason = fault.kind.to_string(alloc)?;
-            refuse_bare(alloc, source, fault.line, fault.col, reason.as_bytes())
-        }
-        LinkKind::Duplicate { .. } | LinkKind::Undefined(_) | LinkKind::TooFar(_) => {
-            unnamed(alloc, source, unit, objects, fault)
-        }
-    }
 }
 
 /// The listing of a source that is accepted, by its unit, the objects of that and their image.
@@ -200,14 +195,16 @@ pub(crate) fn reply_to(alloc: Global, source: &[u8]) -> Result<Reply, NoMemory>
         Ok(objects) => objects,
         Err(fault) => return unassembled(alloc, source, fault),
     };
-    match link(alloc, &objects) {
-        Ok(image) => {
-            let text = listing(alloc, source, &unit, &objects, &image)?;
-            Ok(Reply {
-                accepted: true,
-                text,
-            })
-        }
-        Err(fault) => unlinked(alloc, source, &unit, &objects, fault),
+    let (image, fault) = match link_forced(alloc, &objects) {
+        Ok(linked) => linked,
+        Err(fault) => return unplaced(alloc, source, fault),
+    };
+    if let Some(fault) = fault {
+        return unnamed(alloc, source, &unit, &objects, &image, fault);
     }
+    let text = listing(alloc, source, &unit, &objects, &image)?;
+    Ok(Reply {
+        accepted: true,
+        text,
+    })
 }

@@ -49,16 +49,12 @@ fn push_mark(text: &mut Vec<u8>, column: u32, line: &[u8]) -> Result<(), AllocEr
 
 /// What is kept of the lines from a number on.
 fn slots_behind(slots: &[Slot], number: u64) -> &[Slot]
+    requires { Climb 1 slots.now }
     ensures { result.now ≡ slots_behind number slots.now }
 {
-    let mut rest = slots;
-    while let Some((first, more)) = rest.split_first() {
-        if u64::from(first.line) >= number {
-            return rest;
-        }
-        rest = more;
-    }
-    rest
+    let before = slots.partition_point(|slot| u64::from(slot.line) < number);
+    let (_, behind) = slots.split_at(before);
+    behind
 }
 
 /// Appends the text of a source that is refused at a line and a column, both from 1, for a reason, with what is kept of
