@@ -1,10 +1,13 @@
 -- What only helps the proofs.
+pub mod Sets
+pub mod OneInstruction
+pub mod Walking
 pub mod Reached
 pub mod Written
 pub mod OneSource
 pub mod Appending
 pub mod Items
-pub mod Words
+pub mod WordLines
 pub mod Asking
 pub mod Verdicts
 pub mod Outlining

@@ -1,22 +1,16 @@
 -- An image has one source.
-use Rattle.std.proofs.Common.{◌≡◌, ℕ, zero, suc, ◌+◌, ◌*◌, ◌<◌, ◌^◌, Bool, true, false, inl, inr, List, [], ◌∷◌, ◌++◌, take, drop, map, refl, sym, ap, subst, ◌∙◌, arith, IsTrue}
-use Rattle.std.specs.Prelude.{◌↔◌, Option, Some, unwrap_or}
-use Rattle.std.specs.Int.{from_be_bytes, to_be_bytes, w32}
+use Rattle.std.proofs.Common.{◌≡◌, ℕ, zero, suc, ◌+◌, ◌*◌, ◌<◌, Bool, true, false, inl, inr, List, [], ◌∷◌, ◌++◌, take, drop, map, refl, sym, ap, subst, ◌∙◌, arith, IsTrue}
+use Rattle.std.specs.Prelude.{◌↔◌}
 use Rattle.std.specs.BTreeSet.{BTreeSet, contains as has}
 use Rattle.std.specs.Ordering.{nat_cmp}
 use Rattle.std.proofs.lemmas.Bool.{cases_lt}
 use Rattle.std.proofs.lemmas.Cmp.{nat_cmp_total}
 use Rattle.std.proofs.lemmas.Map.Lookups.{btree_set_from_contains, exact_unsigned}
 use Rattle.std.proofs.lemmas.Map.Views.{btree_set_contains_iff}
-use Rattle.std.proofs.lemmas.Nat.{from_be_bytes-to_be_bytes_4}
 use Rattle.m88_base.specs.Image.{ProgramImage, parts}
 use Rattle.m88_base.specs.Lines.{text_of_lines}
 use Rattle.m88_base.specs.Placed.{Placed}
-use Rattle.m88_codec.proofs.Laws.{one_reading}
-use Rattle.m88_isa.proofs.Laws.{word_small}
-use Rattle.m88_isa.specs.Word.{IsWord}
-use Rattle.m88_isa.specs.declared.instr.Instr.{Instr}
-use Rattle.m88_sourcing.specs.Code.{InCode, HoldsInstruction}
+use Rattle.m88_sourcing.specs.Code.{InCode}
 use Rattle.m88_sourcing.specs.Data.{AreDataLines}
 use Rattle.m88_sourcing.specs.Data.AreDataLines.{no_line, item}
 use Rattle.m88_sourcing.specs.Labels.{code_text}
@@ -26,26 +20,7 @@ use Rattle.m88_sourcing.specs.Source.AreCodeLines.{no_word, word}
 use Rattle.m88_sourcing.specs.Source.AreLooseLines.{no_byte, stretch}
 use Rattle.m88_sourcing.specs.Source.ArePieceLines.{no_piece, code, loose}
 use Rattle.m88_sourcing.specs.Source.AreSourceLines.{no_part, part}
-
--- one instruction stands at an address
-same_bytes : (a b : ℕ) → a < 2 ^ 32 → b < 2 ^ 32 → Some (to_be_bytes w32 a) ≡ Some (to_be_bytes w32 b) → a ≡ b
-same_bytes a b first second same =
-    sym (from_be_bytes-to_be_bytes_4 a first)
-    ∙ ap (λ (o : Option (List ℕ)). from_be_bytes w32 (unwrap_or o [])) same
-    ∙ from_be_bytes-to_be_bytes_4 b second
-
-word_below : (i : Instr) (v : ℕ) → IsWord i v → v < 2 ^ 32
-word_below i v is = subst (λ (w : ℕ). w < 2 ^ 32) is.1 (word_small i is.0)
-
-pub same_instruction : (image : ProgramImage) (a : ℕ) (i j : Instr) → HoldsInstruction image a i → HoldsInstruction image a j → i ≡ j
-same_instruction image a i j s t =
-    let v : ℕ = s.0.1.0 in
-    let w : ℕ = t.0.1.0 in
-    let is : IsWord i v = s.0.1.2 in
-    let is2 : IsWord j w = t.0.1.2 in
-    let same : v ≡ w =
-    same_bytes v w (word_below i v is) (word_below j w is2) (sym s.0.1.1 ∙ t.0.1.1) in
-    one_reading w i j (subst (λ (u : ℕ). IsWord i u) same is) is2
+use Rattle.m88_sourcing.proofs.OneInstruction.{same_instruction}
 
 -- a line where something holds
 one_where : (P : Type 0) (line : List ℕ) (ls ms : List (List ℕ)) → LineWhere P line ls → LineWhere P line ms → ls ≡ ms

@@ -1,57 +1,66 @@
--- What is named by the words of code so far, and by the entries so far.
-use Rattle.std.proofs.Common.{◌≡◌, ◌⊎◌, ◌∙◌, ℕ, ◌+◌, ◌<◌, ◌≤◌, List, [], ◌∷◌, ◌++◌, Some, ap, arith, get_or, inl, inr, length, map, nat_eq, slice_get, subst, sym, take, true}
+-- What is code, what is named by it, and by the entries so far.
+use Rattle.std.proofs.Common.{◌≡◌, ◌⊎◌, ◌∙◌, ℕ, ◌+◌, ◌<◌, IsTrue, List, [], ◌∷◌, ◌++◌, ap, arith, get_or, inl, inr, length, map, subst, sym, take}
 use Rattle.std.specs.Prelude.{◌↔◌, Contains}
-use Rattle.std.specs.List.{list_any}
-use Rattle.std.proofs.lemmas.Bool.{cases_lt}
 use Rattle.std.proofs.lemmas.List.{map-append, take_more}
 use Rattle.std.proofs.lemmas.List.Elements.{Contains-append_left, Contains-push, Contains-push_cases}
-use Rattle.std.proofs.lemmas.Option.{slice_get_within}
 use Rattle.m88_base.specs.Image.{ProgramImage}
 use Rattle.m88_isa.specs.Address.{word_address}
-use Rattle.m88_sourcing.specs.Code.{IsCode}
-use Rattle.m88_sourcing.specs.Labels.{BranchesTo, IsTarget}
-use Rattle.m88_sourcing.proofs.Reached.{index_of_member, member_at}
+use Rattle.m88_sourcing.specs.Code.{HasInstruction, IsCode, IsReached, seeds_of}
+use Rattle.m88_sourcing.specs.Code.IsCode.{in_slot, reached}
+use Rattle.m88_sourcing.specs.Inside.Walks.{HasSlot, IsSound}
+use Rattle.m88_sourcing.specs.Inside.Words.{has_word}
+use Rattle.m88_sourcing.specs.declared.reaching.Walk.{Walk}
+use Rattle.m88_sourcing.specs.declared.words.Words.{Words}
 
--- one of the first n branches to an address
-abbrev pub IsNamedBefore : ProgramImage → List ℕ → ℕ → ℕ → Type 0
-IsNamedBefore image words n t =
-    (k : ℕ) × (from : ℕ) × (k < n) × (slice_get words k ≡ Some from) × BranchesTo image from t
+-- one slot more
+pub slot_more : (slots : List ℕ) (index a : ℕ) (Old Had Has Stands : Type 0) → index < length slots
+    → Had ↔ (Old ⊎ (Contains (take index slots) a × Stands)) → Has ↔ (Had ⊎ ((a ≡ get_or slots index 0) × Stands))
+    → Has ↔ (Old ⊎ (Contains (take (index + 1) slots) a × Stands))
+slot_more slots index a Old Had Has Stands low before last =
+    let xs : List ℕ = take index slots in
+    let y : ℕ = get_or slots index 0 in
+    subst (λ (ys : List ℕ). Has ↔ (Old ⊎ (Contains ys a × Stands))) (sym (take_more slots index 0 low)) (
+      λ has. elim (last.0 has) [
+        | inl had ↦ elim (before.0 had) [
+          | inl old ↦ inl old
+          | inr there ↦ inr (Contains-append_left xs (y ∷ []) a there.0, there.1)
+        ]
+        | inr now ↦ inr (subst (λ (b : ℕ). Contains (xs ++ y ∷ []) b) (sym now.0) (Contains-push xs y), now.1)
+      ],
+      λ h. elim h [
+        | inl old ↦ last.1 (inl (before.1 (inl old)))
+        | inr there ↦ elim (Contains-push_cases xs y a there.0) [
+          | inl old ↦ last.1 (inl (before.1 (inr (old, there.1))))
+          | inr same ↦ last.1 (inr (sym same, there.1))
+        ]
+      ],
+    )
 
--- one word of code more
-pub named_more : (image : ProgramImage) (words : List ℕ) (index at t : ℕ) (Had Has Other : Type 0)
-    → slice_get words index ≡ Some at → Had ↔ (IsNamedBefore image words index t × Other)
-    → Has ↔ (Had ⊎ (BranchesTo image at t × Other)) → Has ↔ (IsNamedBefore image words (index + 1) t × Other)
-named_more image words index at t Had Has Other stands before last = (
-  λ has. elim (last.0 has) [
-    | inl had ↦
-        let p = before.0 had in
-        let low = p.0.2 in
-        ((p.0.0, p.0.1, omega (arith, low), p.0.3, p.0.4), p.1)
-    | inr new ↦ ((index, at, omega arith, stands, new.0), new.1)
+-- what a walk has found, with the slots, is the code
+pub all_code : (image : ProgramImage) (entries seeds : List ℕ) (w : Walk) (new : Words) → seeds ≡ seeds_of image entries
+    → IsSound image seeds w → ((a : ℕ) → IsReached image seeds a → IsTrue (has_word w.outline.code a))
+    → ((a b : ℕ) → IsTrue (has_word w.outline.code a) → HasSlot image a b → Contains w.slots.items b)
+    → ((a : ℕ) → IsTrue (has_word new a)
+    ↔ (IsTrue (has_word w.outline.code a) ⊎ (Contains w.slots.items a × HasInstruction image a)))
+    → (a : ℕ) → IsTrue (has_word new a) ↔ IsCode image entries a
+all_code image entries seeds w new seeds_are sound all slots more a = (
+  λ has. elim ((more a).0 has) [
+    | inl there ↦ reached (from_seeds a (sound.code a there))
+    | inr is ↦
+        let s = sound.slots a is.0 in
+        in_slot s.0 (from_seeds s.0 s.1) (s.2.0, s.2.1, s.2.2, is.1)
   ],
-  λ named. elim (cases_lt named.0.0 index) [
-    | inl low ↦ last.1 (inl (before.1 ((named.0.0, named.0.1, low, named.0.3, named.0.4), named.1)))
-    | inr high ↦
-        let low = named.0.2 in
-        let here : named.0.0 ≡ index = omega (arith, low, high) in
-        let there : slice_get words named.0.0 ≡ Some named.0.1 = named.0.3 in
-        let now : slice_get words index ≡ Some named.0.1 = ap (λ (n : ℕ). slice_get words n) (sym here) ∙ there in
-        let same : named.0.1 ≡ at = cc in
-        last.1 (inr (subst (λ (a : ℕ). BranchesTo image a t) same named.0.4, named.1))
-  ],
+  λ code. (more a).1 (by code),
 )
+  where
+    from_seeds : (b : ℕ) → IsReached image seeds b → IsReached image (seeds_of image entries) b
+    from_seeds b r = subst (λ (xs : List ℕ). IsReached image xs b) seeds_are r
 
--- all words of code
-pub named_all : (image : ProgramImage) (entries words : List ℕ) (index t : ℕ)
-    → ((a : ℕ) → (list_any (nat_eq a) words ≡ true) ↔ IsCode image entries a) → length words ≤ index
-    → IsNamedBefore image words index t ↔ IsTarget image entries t
-named_all image entries words index t code all = (
-  λ named. (named.1, (code named.1).0 (member_at words named.0 named.1 named.3), named.4),
-  λ branch_target.
-      let at = index_of_member words branch_target.0 ((code branch_target.0).1 branch_target.1) in
-      let low = slice_get_within words at.index branch_target.0 at.there in
-      (at.index, branch_target.0, omega (arith, low, all), at.there, branch_target.2),
-)
+    by : IsCode image entries a → IsTrue (has_word w.outline.code a) ⊎ (Contains w.slots.items a × HasInstruction image a)
+    by (reached r) = inl (all a (subst (λ (xs : List ℕ). IsReached image xs a) (sym seeds_are) r))
+    by (in_slot b r is) =
+        let there = all b (subst (λ (xs : List ℕ). IsReached image xs b) (sym seeds_are) r) in
+        inr (slots b a there (is.0, is.1, is.2), is.3)
 
 -- where no entry was noted
 pub no_entry : (t : ℕ) (Has Named Target Other : Type 0) → Has ↔ (Named × Other) → Named ↔ Target

@@ -32,7 +32,7 @@ use Rattle.m88_sourcing.specs.Source.LineWhere.{so, not_so}
 use Rattle.m88_sourcing.specs.Source.AreCodeLines.{no_word, word}
 use Rattle.m88_sourcing.specs.Source.AreLooseLines.{no_byte, stretch}
 use Rattle.m88_sourcing.proofs.Cutting.{code_stands}
-use Rattle.m88_sourcing.proofs.OneSource.{same_instruction}
+use Rattle.m88_sourcing.proofs.OneInstruction.{same_instruction}
 use Rattle.m88_sourcing.proofs.Labelled.{label_symbol, marks, near16_back, near_back, said_branch_bit_to, said_branch_cond_to, said_branch_to, said_label, use_of, wider, words_back}
 use Rattle.m88_sourcing.proofs.Listed.{Listed, ListedData, bytes_dropped, bytes_taken, listed_data}
 use Rattle.m88_sourcing.proofs.Places.{HasAt, IsBranchTo, has_behind_data, has_in_front}

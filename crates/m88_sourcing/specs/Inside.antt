@@ -4,3 +4,5 @@ pub mod Asked
 pub mod Finding
 pub mod Members
 pub mod Replies
+pub mod Walks
+pub mod Words

@@ -7,6 +7,7 @@ mod flow;
 mod outline;
 mod reaching;
 mod standing;
+mod words;
 
 // The text.
 mod item;

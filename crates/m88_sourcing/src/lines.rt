@@ -1,23 +1,20 @@
 //! The lines of names, zeros, texts and words.
-ghost use Rattle.std.specs.Prelude.{◌≡◌, ◌*◌, ◌<◌, ◌≤◌, ◌++◌, ◌∷◌, IsTrue, OnOk, codes, flat_map, length, nat_eq, take};
-ghost use Rattle.std.specs.BTreeSet.{contains as has};
+ghost use Rattle.std.specs.Prelude.{◌≡◌, ◌*◌, ◌<◌, ◌≤◌, ◌++◌, ◌∷◌, IsTrue, OnOk, codes, flat_map, length, take};
 ghost use Rattle.std.specs.Int.{from_be_bytes, w32};
-ghost use Rattle.std.specs.Ordering.{nat_cmp};
-ghost use Rattle.indexmap.specs.IndexSet.{contains};
 ghost use Rattle.m88_base.specs.Lines.{line_end};
 ghost use Rattle.m88_disasm.specs.Text.{hexadecimal};
 ghost use Rattle.m88_sourcing.specs.Data.{in_text, text_line, words_line, zeros_line};
 ghost use Rattle.m88_disasm.specs.Listing.{start_line};
 ghost use Rattle.m88_sourcing.specs.Inside.Appended.{AreAppended};
+ghost use Rattle.m88_sourcing.specs.Inside.Words.{has_word};
 ghost use Rattle.m88_sourcing.specs.Labels.{label_line, label_of};
 ghost use Rattle.m88_sourcing.specs.Source.{LineWhere, far_line};
 
-use indexmap::IndexSet;
+use crate::words::Words;
 use m88_base::{push_decimal, push_hex8};
 use m88_codec::word_at;
 use m88_disasm::{push_hexadecimal, push_start};
 use std::alloc::AllocError;
-use std::collections::BTreeSet;
 
 /// Appends the name of an address.
 pub(crate) fn push_name(text: &mut Vec<u8>, at: u32) -> Result<(), AllocError>
@@ -36,16 +33,12 @@ fn push_label(text: &mut Vec<u8>, at: u32) -> Result<(), AllocError>
 }
 
 /// Appends the line of the label of an address, where it has one.
-pub(crate) fn push_label_at(
-    text: &mut Vec<u8>,
-    labels: &BTreeSet<u32>,
-    at: u32,
-) -> Result<(), AllocError>
+pub(crate) fn push_label_at(text: &mut Vec<u8>, labels: &Words, at: u32) -> Result<(), AllocError>
     ensures { OnOk result (AreAppended
-        (LineWhere (IsTrue (has nat_cmp labels.now at)) (label_line (label_of at)))
+        (LineWhere (IsTrue (has_word labels.now at)) (label_line (label_of at)))
         text.old.items text.new.items) }
 {
-    if labels.contains(&at) {
+    if labels.contains(at) {
         push_label(text, at)?;
     }
     Ok(())
@@ -73,14 +66,14 @@ pub(crate) fn push_start_at(text: &mut Vec<u8>, start: u32, at: u32) -> Result<(
 /// Appends the line that says where the program starts, where that isn't a word that is code.
 pub(crate) fn push_start_number(
     text: &mut Vec<u8>,
-    code: &IndexSet<u32>,
+    code: &Words,
     start: u32,
 ) -> Result<(), AllocError>
     ensures { OnOk result (AreAppended
-        (LineWhere (¬ IsTrue (contains nat_eq code.now start)) (start_line start))
+        (LineWhere (¬ IsTrue (has_word code.now start)) (start_line start))
         text.old.items text.new.items) }
 {
-    if !code.contains(&start) {
+    if !code.contains(start) {
         push_start(text, start)?;
     }
     Ok(())

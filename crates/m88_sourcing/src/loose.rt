@@ -1,20 +1,19 @@
 //! The lines of bytes that are no code.
 ghost use Rattle.std.specs.Prelude.{◌≡◌, ◌+◌, ◌++◌, ◌%◌, ◌<◌, ◌≤◌, ◌^◌, ℕ, List, IfOk, IsTrue, OnOk, drop, length};
-ghost use Rattle.std.specs.BTreeSet.{contains as has};
-ghost use Rattle.std.specs.Ordering.{nat_cmp};
 ghost use Rattle.m88_base.specs.Image.{ProgramImage};
 ghost use Rattle.m88_base.specs.Lines.{line_end};
 ghost use Rattle.m88_sourcing.specs.Data.{AreDataLines, item_length, item_line};
 ghost use Rattle.m88_sourcing.specs.Inside.Appended.{FrontAppended, AreAppended};
 ghost use Rattle.m88_sourcing.specs.Inside.Members.{OutlinesImage, IsOutlined};
+ghost use Rattle.m88_sourcing.specs.Inside.Words.{has_word};
 ghost use Rattle.m88_sourcing.specs.Source.{AreLooseLines, IsStretch};
 
 use crate::item::{Finding, Item};
 use crate::lines::{push_label_at, push_text, push_words, push_zeros};
 use crate::outline::Outline;
+use crate::words::Words;
 use m88_disasm::push_byte;
 use std::alloc::AllocError;
-use std::collections::BTreeSet;
 
 /// Appends the line of an item that stands first of some bytes.
 fn push_item(text: &mut Vec<u8>, bytes: &[u8], item: Item) -> Result<(), AllocError>
@@ -47,14 +46,14 @@ fn push_data(text: &mut Vec<u8>, at: u32, bytes: &[u8]) -> Result<(), AllocError
 }
 
 /// How many of the bytes from an address on come before the next label behind the first byte.
-fn stretch_len(labels: &BTreeSet<u32>, at: u32, bytes: &[u8]) -> usize
+fn stretch_len(labels: &Words, at: u32, bytes: &[u8]) -> usize
     requires some { 0 < length bytes.now }
     requires fits { at + length bytes.now ≤ 2 ^ 32 }
-    requires whole { (a : ℕ) → IsTrue (has nat_cmp labels.now a) → a % 4 ≡ 0 }
-    ensures { IsStretch (λ a. IsTrue (has nat_cmp labels.now a)) at bytes.now result }
+    requires whole { (a : ℕ) → IsTrue (has_word labels.now a) → a % 4 ≡ 0 }
+    ensures { IsStretch (λ a. IsTrue (has_word labels.now a)) at bytes.now result }
 {
     let mut len = 4 - at as usize % 4;
-    while len < bytes.len() && !labels.contains(&(at + len as u32)) {
+    while len < bytes.len() && !labels.contains(at + len as u32) {
         len += 4;
     }
     len.min(bytes.len())

@@ -1,26 +1,40 @@
 //! What is known of an image before its source is written.
-ghost use Rattle.std.specs.Prelude.{◌≡◌, ◌⊎◌, ◌↔◌, ℕ, IfOk, IsSome, IsTrue, OnOk};
-ghost use Rattle.std.specs.BTreeSet.{contains as has};
-ghost use Rattle.std.specs.Ordering.{nat_cmp};
-ghost use Rattle.m88_base.specs.Image.{byte_at};
+ghost use Rattle.std.specs.Prelude.{◌≡◌, ◌⊎◌, ◌↔◌, ℕ, Some, false, IfOk, IsSome, IsTrue, OnOk};
+ghost use Rattle.m88_base.specs.Image.{ProgramImage, byte_at};
 ghost use Rattle.m88_isa.specs.Address.{word_address};
-ghost use Rattle.m88_sourcing.specs.Inside.Members.{OutlinesImage, Notes};
-ghost use Rattle.m88_sourcing.specs.Labels.{BranchesTo};
+ghost use Rattle.m88_sourcing.specs.Code.{HoldsInstruction};
+ghost use Rattle.m88_sourcing.specs.Flow.{branch_target};
+ghost use Rattle.m88_sourcing.specs.Inside.Members.{Notes};
+ghost use Rattle.m88_sourcing.specs.Inside.Walks.{NamesTargets};
+ghost use Rattle.m88_sourcing.specs.Inside.Words.{has_word};
 
 use crate::flow::branch_target;
-use crate::reaching::code_words;
-use crate::standing::standing;
-use indexmap::IndexSet;
+use crate::words::Words;
 use m88_base::Image;
+use m88_isa::Instr;
 use std::alloc::{AllocError, Global};
 use std::collections::BTreeSet;
 
 /// The words that are code, the addresses that have a label, and the targets of branches that have no byte.
 #[derive(Drop)]
 pub(crate) struct Outline {
-    pub code: IndexSet<u32>,
-    pub labels: BTreeSet<u32>,
+    pub code: Words,
+    pub labels: Words,
     pub far: BTreeSet<u32>,
+}
+
+impl Outline {
+    /// Where nothing is known.
+    pub fn new(alloc: Global) -> Outline
+        ensures code { (a : ℕ) → has_word result.code a ≡ false }
+        ensures named { (image : ProgramImage) → NamesTargets image result }
+    {
+        Outline {
+            code: Words::new(alloc),
+            labels: Words::new(alloc),
+            far: BTreeSet::new(alloc),
+        }
+    }
 }
 
 /// Notes an address that a branch names.
@@ -35,23 +49,48 @@ fn note_target(outline: &mut Outline, image: &Image, at: u32) -> Result<(), Allo
     Ok(())
 }
 
-/// Notes the target of the instruction at an address.
-fn note_branch(outline: &mut Outline, image: &Image, at: u32) -> Result<(), AllocError>
-    ensures { OnOk result (Notes image.now (BranchesTo image.now at) outline.old outline.new) }
+/// Notes the target of an instruction at an address.
+fn note_branch(
+    outline: &mut Outline,
+    image: &Image,
+    at: u32,
+    instr: &Instr,
+) -> Result<(), AllocError>
+    ensures { OnOk result
+        (Notes image.now (λ a. branch_target at instr.now ≡ Some a) outline.old outline.new) }
 {
-    let Some(instr) = standing(image, at) else {
-        return Ok(());
-    };
-    match branch_target(at, &instr) {
-        Some(branch_target) => note_target(outline, image, branch_target),
+    match branch_target(at, instr) {
+        Some(target) => note_target(outline, image, target),
         None => Ok(()),
     }
 }
 
+/// Notes a word that is code, and the target of the instruction there. Whether the word wasn't noted yet.
+pub(crate) fn note_word(
+    outline: &mut Outline,
+    image: &Image,
+    at: u32,
+    instr: &Instr,
+) -> Result<bool, AllocError>
+    requires holds { HoldsInstruction image.now at instr.now }
+    requires named { NamesTargets image.now outline.old }
+    ensures code { OnOk result ((a : ℕ) → IsTrue (has_word outline.new.code a)
+        ↔ (IsTrue (has_word outline.old.code a) ⊎ (a ≡ at))) }
+    ensures named { OnOk result (NamesTargets image.now outline.new) }
+    ensures same { IfOk result (λ is_new. is_new ≡ false
+        → (outline.new ≡ outline.old) × IsTrue (has_word outline.old.code at)) }
+{
+    if !outline.code.insert(at)? {
+        return Ok(false);
+    }
+    note_branch(outline, image, at, instr)?;
+    Ok(true)
+}
+
 /// Notes the word of an address at which code was said to begin.
-fn note_entry(labels: &mut BTreeSet<u32>, image: &Image, entry: u32) -> Result<(), AllocError>
-    ensures { OnOk result ((a : ℕ) → IsTrue (has nat_cmp labels.new a)
-        ↔ (IsTrue (has nat_cmp labels.old a)
+pub(crate) fn note_entry(labels: &mut Words, image: &Image, entry: u32) -> Result<(), AllocError>
+    ensures { OnOk result ((a : ℕ) → IsTrue (has_word labels.new a)
+        ↔ (IsTrue (has_word labels.old a)
         ⊎ ((a ≡ word_address entry) × IsSome (byte_at image.now a)))) }
 {
     let at = entry / 4 * 4;
@@ -59,29 +98,4 @@ fn note_entry(labels: &mut BTreeSet<u32>, image: &Image, entry: u32) -> Result<(
         labels.insert(at)?;
     }
     Ok(())
-}
-
-/// The outline of an image, where code begins at these addresses besides the start.
-pub(crate) fn outline_of(
-    alloc: Global,
-    image: &Image,
-    entries: &[u32],
-) -> Result<Outline, AllocError>
-    ensures { IfOk result (λ o. OutlinesImage image.now entries.now o) }
-{
-    let code = code_words(alloc, image, entries)?;
-    let mut outline = Outline {
-        code,
-        labels: BTreeSet::new(alloc),
-        far: BTreeSet::new(alloc),
-    };
-    let count = outline.code.len();
-    for index in 0..count {
-        let at = outline.code[index];
-        note_branch(&mut outline, image, at)?;
-    }
-    for entry in entries {
-        note_entry(&mut outline.labels, image, *entry)?;
-    }
-    Ok(outline)
 }

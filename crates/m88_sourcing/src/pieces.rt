@@ -1,11 +1,11 @@
 //! The lines of the pieces of an image.
-ghost use Rattle.std.specs.Prelude.{◌≡◌, ◌⊎◌, ◌+◌, ◌*◌, ◌%◌, ◌<◌, ◌≤◌, ◌^◌, ℕ, suc, List, [], None, IfOk, IsTrue, OnOk, drop, length, nat_eq};
-ghost use Rattle.indexmap.specs.IndexSet.{contains};
+ghost use Rattle.std.specs.Prelude.{◌≡◌, ◌⊎◌, ◌+◌, ◌*◌, ◌%◌, ◌<◌, ◌≤◌, ◌^◌, ℕ, suc, List, [], None, IfOk, IsTrue, OnOk, drop, length};
 ghost use Rattle.m88_base.specs.Found.{IsPart};
 ghost use Rattle.m88_base.specs.Image.{IsImage, byte_at, parts};
 ghost use Rattle.m88_sourcing.specs.Code.{HasInstruction};
 ghost use Rattle.m88_sourcing.specs.Inside.Appended.{FrontAppended, AreAppended};
 ghost use Rattle.m88_sourcing.specs.Inside.Members.{AsAt, OutlinesImage, IsOutlined, among_words};
+ghost use Rattle.m88_sourcing.specs.Inside.Words.{has_word};
 ghost use Rattle.m88_sourcing.specs.Source.{AreCodeLines, AreSourceLines, ArePieceLines, IsPiece};
 
 use crate::lines::{push_label_at, push_start_at};
@@ -13,23 +13,23 @@ use crate::loose::push_loose;
 use crate::naming::push_instruction;
 use crate::outline::Outline;
 use crate::standing::standing;
-use indexmap::IndexSet;
+use crate::words::Words;
 use m88_base::Image;
 use m88_disasm::push_place;
 use std::alloc::AllocError;
 
 /// Whether the byte at an address belongs to a word that is code.
-fn is_in_code(code: &IndexSet<u32>, at: u32) -> bool
-    ensures { result ≡ among_words (contains nat_eq code.now) at }
+fn is_in_code(code: &Words, at: u32) -> bool
+    ensures { result ≡ among_words (has_word code.now) at }
 {
-    code.contains(&(at / 4 * 4))
+    code.contains(at / 4 * 4)
 }
 
 /// How many of the bytes from an address on are code as the first is, or are none as the first isn't.
-fn piece_len(code: &IndexSet<u32>, at: u32, bytes: &[u8]) -> usize
+fn piece_len(code: &Words, at: u32, bytes: &[u8]) -> usize
     requires some { 0 < length bytes.now }
     requires fits { at + length bytes.now ≤ 2 ^ 32 }
-    ensures piece { IsPiece (AsAt (contains nat_eq code.now) at) at bytes.now result }
+    ensures piece { IsPiece (AsAt (has_word code.now) at) at bytes.now result }
     ensures whole { (result ≡ length bytes.now) ⊎ ((at + result) % 4 ≡ 0) }
 {
     let is_code = is_in_code(code, at);
@@ -93,7 +93,7 @@ fn push_piece(
     requires some { 0 < length bytes.now }
     requires fits { at + length bytes.now ≤ 2 ^ 32 }
     requires end { byte_at image.now (at + length bytes.now) ≡ None }
-    requires whole { IsTrue (among_words (contains nat_eq outline.now.code) at) → at % 4 ≡ 0 }
+    requires whole { IsTrue (among_words (has_word outline.now.code) at) → at % 4 ≡ 0 }
     ensures lines { IfOk result (λ n. (entries : List ℕ) → OutlinesImage image.now entries outline.now
         → FrontAppended (ArePieceLines (λ _. []) image.now entries at bytes.now)
         (ArePieceLines (λ _. []) image.now entries (at + n) (drop n bytes.now))

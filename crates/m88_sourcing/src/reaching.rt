@@ -1,109 +1,153 @@
 //! The words that the flow of a program reaches.
-ghost use Rattle.std.specs.Prelude.{◌≡◌, ◌≤◌, ◌<◌, ◌⊎◌, ◌↔◌, ℕ, Some, IfOk, OnOk, IsTrue, length, nat_eq, slice_get};
-ghost use Rattle.indexmap.specs.IndexSet.{contains};
-ghost use Rattle.m88_sourcing.specs.Code.{HasInstruction, IsCode, IsReachedFrom, IsReached, IsSlotOf, seeds_of};
+ghost use Rattle.std.specs.Prelude.{◌≡◌, ◌⊎◌, ◌↔◌, ◌++◌, ℕ, List, Some, Contains, IfOk, IfSome, OnOk, IsTrue};
+ghost use Rattle.std.specs.Option.{option_to_list};
+ghost use Rattle.m88_sourcing.specs.Code.{HasInstruction, HoldsInstruction, IsCode, IsReached, seeds_of};
+ghost use Rattle.m88_sourcing.specs.Inside.Members.{OutlinesImage};
+ghost use Rattle.m88_sourcing.specs.Inside.Walks.{HasSlot, IsClosed, IsReachedIfCode, IsSound, Keeps, LeadsTo, NamesTargets};
+ghost use Rattle.m88_sourcing.specs.Inside.Words.{has_word};
 
 use crate::flow::{branch_target, goes_on_to, slot};
+use crate::outline::{Outline, note_entry, note_word};
 use crate::standing::{is_exit, standing};
-use indexmap::IndexSet;
 use m88_base::Image;
+use m88_isa::Instr;
 use std::alloc::{AllocError, Global};
 
-/// Notes an address, where an instruction stands there.
-fn visit(found: &mut IndexSet<u32>, image: &Image, at: u32) -> Result<(), AllocError>
-    ensures has { OnOk result (HasInstruction image.now at → IsTrue (contains nat_eq found.new at)) }
-    ensures only { OnOk result ((b : ℕ) → IsTrue (contains nat_eq found.new b)
-        → IsTrue (contains nat_eq found.old b) ⊎ ((b ≡ at) × HasInstruction image.now at)) }
-    ensures keeps { OnOk result ((b : ℕ) → IsTrue (contains nat_eq found.old b)
-        → IsTrue (contains nat_eq found.new b)) }
-    ensures order { OnOk result ((k : ℕ) → k < length found.old.keys
-        → slice_get found.new.keys k ≡ slice_get found.old.keys k) }
-    ensures grows { OnOk result (length found.old.keys ≤ length found.new.keys) }
+/// The most instructions of a way, so that each way ends.
+const MOST_OF_A_WAY: usize = 4096;
+
+/// What is found on a walk along the ways of a program.
+#[derive(Drop)]
+pub(crate) struct Walk {
+    pub outline: Outline,
+    /// Where ways begin, in the order in which they were found.
+    pub heads: Vec<u32>,
+    /// The delay slots of the words of code.
+    pub slots: Vec<u32>,
+}
+
+/// Appends an address, where there is one.
+fn push_if(addresses: &mut Vec<u32>, at: Option<u32>) -> Result<(), AllocError>
+    ensures { OnOk result (addresses.new.items ≡ addresses.old.items ++ option_to_list at) }
 {
-    if standing(image, at).is_some() {
-        found.insert(at)?;
+    if let Some(at) = at {
+        addresses.push(at)?;
     }
     Ok(())
 }
 
-/// Notes an address, where there is one and an instruction stands there.
-fn visit_if(found: &mut IndexSet<u32>, image: &Image, at: Option<u32>) -> Result<(), AllocError>
-    ensures has { OnOk result ((b : ℕ) → at ≡ Some b → HasInstruction image.now b
-        → IsTrue (contains nat_eq found.new b)) }
-    ensures only { OnOk result ((b : ℕ) → IsTrue (contains nat_eq found.new b)
-        → IsTrue (contains nat_eq found.old b) ⊎ ((at ≡ Some b) × HasInstruction image.now b)) }
-    ensures keeps { OnOk result ((b : ℕ) → IsTrue (contains nat_eq found.old b)
-        → IsTrue (contains nat_eq found.new b)) }
-    ensures order { OnOk result ((k : ℕ) → k < length found.old.keys
-        → slice_get found.new.keys k ≡ slice_get found.old.keys k) }
-    ensures grows { OnOk result (length found.old.keys ≤ length found.new.keys) }
+/// Notes the target of an instruction at an address as the head of a way, and answers where the program goes on.
+fn lead(
+    heads: &mut Vec<u32>,
+    image: &Image,
+    at: u32,
+    instr: &Instr,
+) -> Result<Option<u32>, AllocError>
+    requires { HoldsInstruction image.now at instr.now }
+    ensures has { IfOk result (λ next. (b : ℕ) → LeadsTo image.now at b
+        → Contains heads.new.items b ⊎ (next ≡ Some b)) }
+    ensures only { OnOk result ((b : ℕ) → Contains heads.new.items b
+        → Contains heads.old.items b ⊎ LeadsTo image.now at b) }
+    ensures next { IfOk result (λ next. (b : ℕ) → next ≡ Some b → LeadsTo image.now at b) }
+    ensures keeps { OnOk result ((more : List ℕ) × (heads.new.items ≡ heads.old.items ++ more)) }
 {
-    match at {
-        Some(at) => visit(found, image, at),
-        None => Ok(()),
+    if is_exit(image, at, instr) {
+        return Ok(None);
     }
+    push_if(heads, branch_target(at, instr))?;
+    Ok(goes_on_to(at, instr))
 }
 
-/// Notes where the instruction at an address leads.
-fn lead(found: &mut IndexSet<u32>, image: &Image, at: u32) -> Result<(), AllocError>
-    ensures has { OnOk result ((b : ℕ) → IsReachedFrom image.now at b → IsTrue (contains nat_eq found.new b)) }
-    ensures only { OnOk result ((b : ℕ) → IsTrue (contains nat_eq found.new b)
-        → IsTrue (contains nat_eq found.old b) ⊎ IsReachedFrom image.now at b) }
-    ensures keeps { OnOk result ((b : ℕ) → IsTrue (contains nat_eq found.old b)
-        → IsTrue (contains nat_eq found.new b)) }
-    ensures order { OnOk result ((k : ℕ) → k < length found.old.keys
-        → slice_get found.new.keys k ≡ slice_get found.old.keys k) }
-    ensures grows { OnOk result (length found.old.keys ≤ length found.new.keys) }
+/// Notes the word at an address with its slot and its target, where an instruction stands there and wasn't noted yet, and
+/// answers where the program goes on.
+fn step(walk: &mut Walk, image: &Image, at: u32) -> Result<Option<u32>, AllocError>
+    requires { IsClosed image.now walk.old (λ b. b ≡ at) }
+    ensures closed { IfOk result (λ next. IsClosed image.now walk.new (λ b. next ≡ Some b)) }
+    ensures sound { IfOk result (λ next. (seeds : List ℕ) → IsSound image.now seeds walk.old
+        → IsReachedIfCode image.now seeds at
+        → IsSound image.now seeds walk.new × IfSome next (IsReachedIfCode image.now seeds)) }
+    ensures keeps { OnOk result (Keeps walk.old walk.new) }
+    ensures found { OnOk result (HasInstruction image.now at
+        → IsTrue (has_word walk.new.outline.code at)) }
 {
-    match standing(image, at) {
-        Some(instr) => {
-            if is_exit(image, at, &instr) {
-                return Ok(());
-            }
-            visit_if(found, image, goes_on_to(at, &instr))?;
-            visit_if(found, image, branch_target(at, &instr))?;
-            Ok(())
-        }
-        None => Ok(()),
+    let Some(instr) = standing(image, at) else {
+        return Ok(None);
+    };
+    if !note_word(&mut walk.outline, image, at, &instr)? {
+        return Ok(None);
     }
+    push_if(&mut walk.slots, slot(at, &instr))?;
+    let next = lead(&mut walk.heads, image, at, &instr)?;
+    Ok(next)
 }
 
-/// The addresses of an image that are reached, where code begins at these, in the order in which they are found.
-fn follow(alloc: Global, image: &Image, seeds: &[u32]) -> Result<IndexSet<u32>, AllocError>
-    ensures { IfOk result (λ found. (a : ℕ)
-        → IsTrue (contains nat_eq found a) ↔ IsReached image.now seeds.now a) }
+/// Follows a way to its end, or up to the head of a further one.
+fn follow_way(walk: &mut Walk, image: &Image, head: u32) -> Result<(), AllocError>
+    requires { IsClosed image.now walk.old (λ b. b ≡ head) }
+    ensures closed { OnOk result (IsClosed image.now walk.new (λ _. ⊥)) }
+    ensures sound { OnOk result ((seeds : List ℕ) → IsSound image.now seeds walk.old
+        → IsReachedIfCode image.now seeds head → IsSound image.now seeds walk.new) }
+    ensures keeps { OnOk result (Keeps walk.old walk.new) }
+    ensures found { OnOk result (HasInstruction image.now head
+        → IsTrue (has_word walk.new.outline.code head)) }
 {
-    let mut found = IndexSet::new(alloc);
-    for seed in seeds {
-        visit(&mut found, image, *seed)?;
+    let mut next = step(walk, image, head)?;
+    for _ in 1..MOST_OF_A_WAY {
+        let Some(at) = next else {
+            return Ok(());
+        };
+        next = step(walk, image, at)?;
     }
+    push_if(&mut walk.heads, next)
+}
+
+/// A walk along all ways of a program, where they begin at these addresses.
+fn follow(alloc: Global, image: &Image, seeds: Vec<u32>) -> Result<Walk, AllocError>
+    ensures sound { IfOk result (λ w. IsSound image.now seeds.items w) }
+    ensures all { IfOk result (λ w. (a : ℕ) → IsReached image.now seeds.items a
+        → IsTrue (has_word w.outline.code a)) }
+    ensures slots { IfOk result (λ w. (a b : ℕ) → IsTrue (has_word w.outline.code a)
+        → HasSlot image.now a b → Contains w.slots.items b) }
+    ensures names { IfOk result (λ w. NamesTargets image.now w.outline) }
+{
+    let mut walk = Walk {
+        outline: Outline::new(alloc),
+        heads: seeds,
+        slots: Vec::new(alloc),
+    };
     let mut next = 0;
-    while next < found.len() {
-        let at = found[next];
-        lead(&mut found, image, at)?;
+    while next < walk.heads.len() {
+        let head = walk.heads[next];
+        follow_way(&mut walk, image, head)?;
         next += 1;
     }
-    Ok(found)
+    Ok(walk)
 }
 
-/// Notes the delay slot of the instruction at an address.
-fn note_slot(found: &mut IndexSet<u32>, image: &Image, at: u32) -> Result<(), AllocError>
-    ensures has { OnOk result ((b : ℕ) → IsSlotOf image.now at b → IsTrue (contains nat_eq found.new b)) }
-    ensures only { OnOk result ((b : ℕ) → IsTrue (contains nat_eq found.new b)
-        → IsTrue (contains nat_eq found.old b) ⊎ IsSlotOf image.now at b) }
-    ensures keeps { OnOk result ((b : ℕ) → IsTrue (contains nat_eq found.old b)
-        → IsTrue (contains nat_eq found.new b)) }
-    ensures order { OnOk result ((k : ℕ) → k < length found.old.keys
-        → slice_get found.new.keys k ≡ slice_get found.old.keys k) }
-    ensures grows { OnOk result (length found.old.keys ≤ length found.new.keys) }
+/// Notes the word of a delay slot, where an instruction stands there.
+fn note_slot(outline: &mut Outline, image: &Image, at: u32) -> Result<(), AllocError>
+    requires { NamesTargets image.now outline.old }
+    ensures code { OnOk result ((a : ℕ) → IsTrue (has_word outline.new.code a)
+        ↔ (IsTrue (has_word outline.old.code a) ⊎ ((a ≡ at) × HasInstruction image.now a))) }
+    ensures named { OnOk result (NamesTargets image.now outline.new) }
 {
-    match standing(image, at) {
-        Some(instr) => {
-            visit_if(found, image, slot(at, &instr))?;
-            Ok(())
-        }
-        None => Ok(()),
+    if let Some(instr) = standing(image, at) {
+        note_word(outline, image, at, &instr)?;
     }
+    Ok(())
+}
+
+/// Notes the words of delay slots, where instructions stand there.
+fn note_slots(outline: &mut Outline, image: &Image, slots: &[u32]) -> Result<(), AllocError>
+    requires { NamesTargets image.now outline.old }
+    ensures code { OnOk result ((a : ℕ) → IsTrue (has_word outline.new.code a)
+        ↔ (IsTrue (has_word outline.old.code a) ⊎ (Contains slots.now a × HasInstruction image.now a))) }
+    ensures named { OnOk result (NamesTargets image.now outline.new) }
+{
+    for slot in slots {
+        note_slot(outline, image, *slot)?;
+    }
+    Ok(())
 }
 
 /// The words at which code begins: the start's, and those of further addresses.
@@ -118,21 +162,33 @@ fn seeds(alloc: Global, image: &Image, entries: &[u32]) -> Result<Vec<u32>, Allo
     Ok(seeds)
 }
 
-/// The addresses of the words of an image that are code, where code begins at these besides the start.
-pub(crate) fn code_words(
+/// The words of an image that are code, where code begins at these addresses besides the start, with their targets.
+fn code_words(alloc: Global, image: &Image, entries: &[u32]) -> Result<Outline, AllocError>
+    ensures code { IfOk result (λ o. (a : ℕ)
+        → IsTrue (has_word o.code a) ↔ IsCode image.now entries.now a) }
+    ensures names { IfOk result (λ o. NamesTargets image.now o) }
+{
+    let seeds = seeds(alloc, image, entries)?;
+    let Walk {
+        mut outline,
+        slots,
+        ..
+    } = follow(alloc, image, seeds)?;
+    note_slots(&mut outline, image, &slots)?;
+    Ok(outline)
+}
+
+/// The outline of an image, where code begins at these addresses besides the start.
+pub(crate) fn outline_of(
     alloc: Global,
     image: &Image,
     entries: &[u32],
-) -> Result<IndexSet<u32>, AllocError>
-    ensures { IfOk result (λ code. (a : ℕ)
-        → IsTrue (contains nat_eq code a) ↔ IsCode image.now entries.now a) }
+) -> Result<Outline, AllocError>
+    ensures { IfOk result (λ o. OutlinesImage image.now entries.now o) }
 {
-    let seeds = seeds(alloc, image, entries)?;
-    let mut code = follow(alloc, image, seeds.as_slice())?;
-    let count = code.len();
-    for index in 0..count {
-        let at = code[index];
-        note_slot(&mut code, image, at)?;
+    let mut outline = code_words(alloc, image, entries)?;
+    for entry in entries {
+        note_entry(&mut outline.labels, image, *entry)?;
     }
-    Ok(code)
+    Ok(outline)
 }

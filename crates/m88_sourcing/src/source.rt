@@ -8,8 +8,9 @@ ghost use Rattle.m88_disasm.specs.Read.{WritesImage};
 ghost use Rattle.m88_sourcing.specs.Source.{IsSource, far_line};
 
 use crate::lines::{push_far, push_start_number};
-use crate::outline::{Outline, outline_of};
+use crate::outline::Outline;
 use crate::pieces::push_parts;
+use crate::reaching::outline_of;
 use m88_base::{Image, NoMemory};
 use std::alloc::{AllocError, Global};
 

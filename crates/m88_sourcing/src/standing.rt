@@ -45,8 +45,11 @@ pub(crate) fn is_exit(image: &Image, at: u32, instr: &Instr) -> bool
     requires { HoldsInstruction image.now at instr.now }
     ensures { IsTrue result ↔ IsExit image.now at }
 {
+    if !calls_monitor(instr) {
+        return false;
+    }
     match standing(image, at.wrapping_sub(4)) {
-        Some(before) => calls_monitor(instr) && asks_for_end(&before),
+        Some(before) => asks_for_end(&before),
         None => false,
     }
 }

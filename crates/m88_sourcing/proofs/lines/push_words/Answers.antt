@@ -1,6 +1,6 @@
 -- The first word, each further one, and the line's end.
 use Rattle.std.proofs.Common.{arith}
-use Rattle.m88_sourcing.proofs.Words.{all_words, first_word, one_more_word}
+use Rattle.m88_sourcing.proofs.WordLines.{all_words, first_word, one_more_word}
 use Rattle.m88_sourcing.proofs.lines.push_words.Goals as goal
 
 pub loop-index-init : goal.loop-index-init

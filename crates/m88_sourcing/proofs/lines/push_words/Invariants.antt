@@ -1,7 +1,7 @@
 -- With the words that are left it is the line.
 use Rattle.std.proofs.Common.{◌≡◌, ◌-◌, ◌*◌, ◌++◌, drop}
 use Rattle.m88_sourcing.specs.Data.{words_line}
-use Rattle.m88_sourcing.proofs.Words.{further}
+use Rattle.m88_sourcing.proofs.WordLines.{further}
 use Rattle.m88_sourcing.proofs.lines.push_words.Given as goal
 
 abbrev pub invariant-loop-index : goal.invariant-loop-index

@@ -1,6 +1,6 @@
 -- So far all are as the first, up to the beginning of a word.
-use Rattle.std.proofs.Common.{◌≡◌, ◌+◌, ◌-◌, ◌%◌, ◌<◌, ℕ, length, nat_eq}
-use Rattle.indexmap.specs.IndexSet.{contains}
+use Rattle.std.proofs.Common.{◌≡◌, ◌+◌, ◌-◌, ◌%◌, ◌<◌, ℕ, length}
+use Rattle.m88_sourcing.specs.Inside.Words.{has_word}
 use Rattle.m88_sourcing.specs.Inside.Members.{AsAt}
 use Rattle.m88_sourcing.proofs.pieces.piece_len.Given as goal
 
@@ -8,7 +8,7 @@ abbrev pub invariant-loop-len : goal.invariant-loop-len
 invariant-loop-len l = record {
   some : 0 < l.len;
   whole : (l.at + l.len) % 4 ≡ 0;
-  even : (k : ℕ) → k < l.len → AsAt (contains nat_eq l.code) l.at (l.at + k);
+  even : (k : ℕ) → k < l.len → AsAt (has_word l.code) l.at (l.at + k);
   low : l.len < length l.bytes + 4;
 }
 

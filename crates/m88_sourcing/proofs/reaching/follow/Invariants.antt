@@ -1,22 +1,17 @@
--- What was found is reached, has the seeds, and has where the first `next` of it lead.
-use Rattle.std.proofs.Common.{◌≡◌, ◌<◌, ◌-◌, ◌^◌, ℕ, Some, IsTrue, nat_eq, slice_get}
-use Rattle.indexmap.specs.IndexSet.{contains}
-use Rattle.m88_sourcing.specs.Code.{HasInstruction, IsReachedFrom, IsReached}
+-- The first `next` heads are found, and nothing is left but the others.
+use Rattle.std.proofs.Common.{◌≡◌, ◌-◌, ◌<◌, ◌^◌, ℕ, Contains, IsTrue, Some, slice_get}
+use Rattle.m88_sourcing.specs.Code.{HasInstruction}
+use Rattle.m88_sourcing.specs.Inside.Walks.{IsClosed, IsSound}
+use Rattle.m88_sourcing.specs.Inside.Words.{has_word}
 use Rattle.m88_sourcing.proofs.reaching.follow.Given as goal
-
-abbrev pub invariant-loop-seed : goal.invariant-loop-seed
-invariant-loop-seed l = record {
-  sound : (b : ℕ) → IsTrue (contains nat_eq l.found b) → IsReached l.image l.seeds b;
-  seeded : (k a : ℕ) → k < l.seed-index → slice_get l.seeds k ≡ Some a → HasInstruction l.image a
-      → IsTrue (contains nat_eq l.found a);
-}
 
 abbrev pub invariant-loop-next : goal.invariant-loop-next
 invariant-loop-next l = record {
-  sound : (b : ℕ) → IsTrue (contains nat_eq l.found b) → IsReached l.image l.seeds b;
-  seeded : (k a : ℕ) → slice_get l.seeds k ≡ Some a → HasInstruction l.image a → IsTrue (contains nat_eq l.found a);
-  closed : (k a b : ℕ) → k < l.next → slice_get l.found.keys k ≡ Some a → IsReachedFrom l.image a b
-      → IsTrue (contains nat_eq l.found b);
+  sound : IsSound l.image l.fn.seeds.items l.walk;
+  closed : IsClosed l.image l.walk (λ _. ⊥);
+  seeds : (a : ℕ) → Contains l.fn.seeds.items a → Contains l.walk.heads.items a;
+  done : (k b : ℕ) → k < l.next → slice_get l.walk.heads.items k ≡ Some b → HasInstruction l.image b
+      → IsTrue (has_word l.walk.outline.code b);
 }
 
 abbrev pub decreases-loop-next : goal.decreases-loop-next

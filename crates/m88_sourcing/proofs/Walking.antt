@@ -1,0 +1,224 @@
+-- A walk from word to word: what it has found stays reached, and what it hasn't found is left.
+use Rattle.std.proofs.Common.{◌≡◌, ◌⊎◌, ◌∙◌, ◌<◌, ℕ, zero, suc, length, slice_get, List, [], ◌∷◌, ◌++◌, inl, inr, IsTrue, None, Some, ap, append_assoc, arith, refl, subst, sym}
+use Rattle.std.specs.Prelude.{◌↔◌, Contains, IfSome, Option}
+use Rattle.std.specs.Option.{option_to_list}
+use Rattle.std.proofs.lemmas.List.Elements.{Contains-append_cases, Contains-append_left, Contains-push, Contains-push_cases}
+use Rattle.m88_base.specs.Image.{ProgramImage}
+use Rattle.m88_isa.specs.declared.instr.Instr.{Instr}
+use Rattle.m88_sourcing.specs.Code.{HasInstruction, HoldsInstruction, IsReached, IsReachedFrom}
+use Rattle.m88_sourcing.specs.Code.IsReached.{leads}
+use Rattle.m88_sourcing.specs.Flow.{branch_target, slot}
+use Rattle.m88_sourcing.specs.Inside.Members.{Notes}
+use Rattle.m88_sourcing.specs.Inside.Walks.{HasSlot, IsClosed, IsNamed, IsReachedIfCode, IsSound, Keeps, LeadsTo, NamesTargets}
+use Rattle.m88_sourcing.specs.Inside.Words.{has_word}
+use Rattle.m88_sourcing.specs.Labels.{BranchesTo}
+use Rattle.m88_sourcing.specs.declared.outline.Outline.{Outline}
+use Rattle.m88_sourcing.specs.declared.reaching.Walk.{Walk}
+use Rattle.m88_sourcing.specs.declared.words.Words.{Words}
+use Rattle.m88_sourcing.proofs.OneInstruction.{same_instruction}
+
+-- one address more, where there is one
+pub with_one : (xs ys : List ℕ) (o : Option ℕ) (b : ℕ) → ys ≡ xs ++ option_to_list o → Contains ys b ↔ (Contains xs b ⊎ (o ≡ Some b))
+with_one xs ys o b e = (λ h. by o (subst (λ (zs : List ℕ). Contains zs b) e h), λ h. subst (λ (zs : List ℕ). Contains zs b) (sym e) (back o h))
+  where
+    by : (p : Option ℕ) → Contains (xs ++ option_to_list p) b → Contains xs b ⊎ (p ≡ Some b)
+    by (Some a) h = elim (Contains-push_cases xs a b h) [
+      | inl old ↦ inl old
+      | inr new ↦ inr (ap (λ (n : ℕ). Some n) new)
+    ]
+    by None h = elim (Contains-append_cases xs [] b h) [
+      | inl old ↦ inl old
+      | inr none ↦ absurd (let low = none.1 in omega (arith, low))
+    ]
+
+    back : (p : Option ℕ) → Contains xs b ⊎ (p ≡ Some b) → Contains (xs ++ option_to_list p) b
+    back p (inl old) = Contains-append_left xs (option_to_list p) b old
+    back (Some a) (inr new) = let same : a ≡ b = cc in subst (λ (n : ℕ). Contains (xs ++ a ∷ []) n) same (Contains-push xs a)
+    back None (inr new) = absurd cc
+
+-- one word of code more, and its target
+named_more : (image : ProgramImage) (old new : Outline) (at t : ℕ) (i : Instr) (Had Has Other : Type 0)
+    → HoldsInstruction image at i
+    → ((a : ℕ) → IsTrue (has_word new.code a) ↔ (IsTrue (has_word old.code a) ⊎ (a ≡ at)))
+    → Had ↔ (IsNamed image old t × Other) → Has ↔ (Had ⊎ ((branch_target at i ≡ Some t) × Other))
+    → Has ↔ (IsNamed image new t × Other)
+named_more image old new at t i Had Has Other holds code before last = (
+  λ has. elim (last.0 has) [
+    | inl had ↦
+        let p = before.0 had in
+        ((p.0.0, (code p.0.0).1 (inl p.0.1), p.0.2), p.1)
+    | inr now ↦ ((at, (code at).1 (inr refl), (i, holds, now.0)), now.1)
+  ],
+  λ named. elim ((code named.0.0).0 named.0.1) [
+    | inl there ↦ last.1 (inl (before.1 ((named.0.0, there, named.0.2), named.1)))
+    | inr same ↦
+        let here : BranchesTo image at t = subst (λ (a : ℕ). BranchesTo image a t) same named.0.2 in
+        let one : i ≡ here.0 = same_instruction image at i here.0 holds here.1 in
+        last.1 (inr (ap (λ (k : Instr). branch_target at k) one ∙ here.2, named.1))
+  ],
+)
+
+pub names_more : (image : ProgramImage) (old : Outline) (code : Words) (new : Outline) (at : ℕ) (i : Instr)
+    → HoldsInstruction image at i → NamesTargets image old
+    → ((a : ℕ) → IsTrue (has_word code a) ↔ (IsTrue (has_word old.code a) ⊎ (a ≡ at)))
+    → Notes image (λ a. branch_target at i ≡ Some a) (record { code = code; labels = old.labels; far = old.far }) new
+    → NamesTargets image new
+names_more image old code new at i holds names more notes =
+    let now : (a : ℕ) → IsTrue (has_word new.code a) ↔ (IsTrue (has_word old.code a) ⊎ (a ≡ at)) =
+    λ a. subst (λ (w : Words). IsTrue (has_word w a) ↔ (IsTrue (has_word old.code a) ⊎ (a ≡ at))) (sym notes.code) (more a) in
+    record {
+      labels = λ a. named_more image old new at a i _ _ _ holds now (names.labels a) (notes.labels a);
+      far = λ a. named_more image old new at a i _ _ _ holds now (names.far a) (notes.far a);
+    }
+
+-- what is left, said otherwise
+pub left_as : (image : ProgramImage) (w : Walk) (Left Other : ℕ → Type 0) → ((b : ℕ) → Left b → Other b) → IsClosed image w Left
+    → IsClosed image w Other
+left_as image w Left Other other closed = record {
+  leads = λ a b there led.
+      elim (closed.leads a b there led) [
+        | inl found ↦ inl found
+        | inr further ↦ elim further [
+          | inl head ↦ inr (inl head)
+          | inr left ↦ inr (inr (other b left))
+        ]
+      ];
+  slots = closed.slots;
+  names = closed.names;
+}
+
+-- where nothing is left but what was found
+pub none_left : (image : ProgramImage) (w : Walk) (at : ℕ) (Left : ℕ → Type 0)
+    → (HasInstruction image at → IsTrue (has_word w.outline.code at)) → IsClosed image w (λ b. b ≡ at) → IsClosed image w Left
+none_left image w at Left found closed = record {
+  leads = λ a b there led.
+      elim (closed.leads a b there led) [
+        | inl old ↦ inl old
+        | inr further ↦ elim further [
+          | inl head ↦ inr (inl head)
+          | inr same ↦
+              inl (subst (λ (n : ℕ). IsTrue (has_word w.outline.code n)) (sym same)
+              (found (subst (λ (n : ℕ). HasInstruction image n) same led.4)))
+        ]
+      ];
+  slots = closed.slots;
+  names = closed.names;
+}
+
+-- one word more, whose slot was noted, and whose target was or is left
+pub more_closed : (image : ProgramImage) (old new : Walk) (at : ℕ) (next slot_there : Option ℕ) (i : Instr)
+    → HoldsInstruction image at i → IsClosed image old (λ b. b ≡ at)
+    → ((a : ℕ) → IsTrue (has_word new.outline.code a) ↔ (IsTrue (has_word old.outline.code a) ⊎ (a ≡ at)))
+    → NamesTargets image new.outline → slot_there ≡ slot at i → new.slots.items ≡ old.slots.items ++ option_to_list slot_there
+    → ((b : ℕ) → LeadsTo image at b → Contains new.heads.items b ⊎ (next ≡ Some b))
+    → ((more : List ℕ) × (new.heads.items ≡ old.heads.items ++ more))
+    → IsClosed image new (λ b. next ≡ Some b)
+more_closed image old new at next slot_there i holds closed code names slot_is slots heads keeps = record {
+  leads = λ a b there led.
+      elim ((code a).0 there) [
+        | inl was ↦ elim (closed.leads a b was led) [
+          | inl found ↦ inl ((code b).1 (inl found))
+          | inr further ↦ elim further [
+            | inl head ↦
+                inr (inl (subst (λ (xs : List ℕ). Contains xs b) (sym keeps.1)
+                (Contains-append_left old.heads.items keeps.0 b head)))
+            | inr same ↦ inl ((code b).1 (inr same))
+          ]
+        ]
+        | inr same ↦
+            let here : IsReachedFrom image at b = subst (λ (n : ℕ). IsReachedFrom image n b) same led in
+            elim (heads b (here.0, here.1, here.2, here.3)) [
+              | inl head ↦ inr (inl head)
+              | inr on ↦ inr (inr on)
+            ]
+      ];
+  slots = λ a b there is_slot.
+      (with_one old.slots.items new.slots.items slot_there b slots).1
+      (elim ((code a).0 there) [
+        | inl was ↦ inl (closed.slots a b was is_slot)
+        | inr same ↦
+            let here : HasSlot image at b = subst (λ (n : ℕ). HasSlot image n b) same is_slot in
+            let one : i ≡ here.0 = same_instruction image at i here.0 holds here.1 in
+            inr (slot_is ∙ ap (λ (k : Instr). slot at k) one ∙ here.2)
+      ]);
+  names = names;
+}
+
+-- an address to which a reached one leads
+led_to : (image : ProgramImage) (seeds : List ℕ) (a b : ℕ) → IsReached image seeds a → LeadsTo image a b → IsReachedIfCode image seeds b
+led_to image seeds a b from led stands = leads from (led.0, led.1, led.2, led.3, stands)
+
+pub more_sound : (image : ProgramImage) (seeds : List ℕ) (old new : Walk) (at : ℕ) (next slot_there : Option ℕ) (i : Instr)
+    → HoldsInstruction image at i → IsSound image seeds old → IsReachedIfCode image seeds at
+    → ((a : ℕ) → IsTrue (has_word new.outline.code a) ↔ (IsTrue (has_word old.outline.code a) ⊎ (a ≡ at)))
+    → slot_there ≡ slot at i → new.slots.items ≡ old.slots.items ++ option_to_list slot_there
+    → ((b : ℕ) → Contains new.heads.items b → Contains old.heads.items b ⊎ LeadsTo image at b)
+    → ((b : ℕ) → next ≡ Some b → LeadsTo image at b)
+    → IsSound image seeds new × IfSome next (IsReachedIfCode image seeds)
+more_sound image seeds old new at next slot_there i holds sound reached code slot_is slots heads on = (
+  record {
+    code = λ a there.
+        elim ((code a).0 there) [
+          | inl was ↦ sound.code a was
+          | inr same ↦ subst (λ (n : ℕ). IsReached image seeds n) (sym same) (reached (i, holds))
+        ];
+    heads = λ a head.
+        elim (heads a head) [
+          | inl was ↦ sound.heads a was
+          | inr led ↦ led_to image seeds at a (reached (i, holds)) led
+        ];
+    slots = λ b there.
+        elim ((with_one old.slots.items new.slots.items slot_there b slots).0 there) [
+          | inl was ↦ sound.slots b was
+          | inr now ↦ (at, reached (i, holds), (i, holds, sym slot_is ∙ now))
+        ];
+  },
+  goes next refl,
+)
+  where
+    goes : (o : Option ℕ) → next ≡ o → IfSome o (IsReachedIfCode image seeds)
+    goes (Some b) e = led_to image seeds at b (reached (i, holds)) (on b e)
+    goes None e = tt
+
+pub kept_then : (w0 w1 w2 : Walk) → Keeps w0 w1 → Keeps w1 w2 → Keeps w0 w2
+kept_then w0 w1 w2 first second = record {
+  code = λ a there. second.code a (first.code a there);
+  more = first.more ++ second.more;
+  heads =
+      second.heads ∙ ap (λ (xs : List ℕ). xs ++ second.more) first.heads
+      ∙ append_assoc w0.heads.items first.more second.more;
+}
+
+-- a way that ends, or whose rest is a further one
+pub ended_closed : (image : ProgramImage) (w : Walk) (new : Walk) (next : Option ℕ) → new.outline ≡ w.outline → new.slots ≡ w.slots
+    → new.heads.items ≡ w.heads.items ++ option_to_list next → IsClosed image w (λ b. next ≡ Some b) → IsClosed image new (λ _. ⊥)
+ended_closed image w new next outline slots heads closed = record {
+  leads = λ a b there led.
+      elim (closed.leads a b (subst (λ (o : Outline). IsTrue (has_word o.code a)) outline there) led) [
+        | inl found ↦ inl (subst (λ (o : Outline). IsTrue (has_word o.code b)) (sym outline) found)
+        | inr further ↦ inr (inl ((with_one w.heads.items new.heads.items next b heads).1 further))
+      ];
+  slots = λ a b there is_slot.
+      subst (λ s. Contains s.items b) (sym slots)
+      (closed.slots a b (subst (λ (o : Outline). IsTrue (has_word o.code a)) outline there) is_slot);
+  names = subst (λ (o : Outline). NamesTargets image o) (sym outline) closed.names;
+}
+
+pub ended_sound : (image : ProgramImage) (seeds : List ℕ) (w : Walk) (new : Walk) (next : Option ℕ) → new.outline ≡ w.outline
+    → new.slots ≡ w.slots → new.heads.items ≡ w.heads.items ++ option_to_list next
+    → IsSound image seeds w × IfSome next (IsReachedIfCode image seeds) → IsSound image seeds new
+ended_sound image seeds w new next outline slots heads (sound, on) = record {
+  code = λ a there. sound.code a (subst (λ (o : Outline). IsTrue (has_word o.code a)) outline there);
+  heads = λ a head.
+      elim ((with_one w.heads.items new.heads.items next a heads).0 head) [
+        | inl old ↦ sound.heads a old
+        | inr e ↦ subst (λ (o : Option ℕ). IfSome o (IsReachedIfCode image seeds)) e on
+      ];
+  slots = λ b there. sound.slots b (subst (λ s. Contains s.items b) slots there);
+}
+
+-- what stands at an index stays there, where more is appended
+pub stands_still : (xs ys : List ℕ) (k : ℕ) → k < length xs → slice_get (xs ++ ys) k ≡ slice_get xs k
+stands_still [] ys k low = absurd (omega (arith, low))
+stands_still (x ∷ xs) ys zero low = refl
+stands_still (x ∷ xs) ys (suc k) low = stands_still xs ys k (omega (arith, low))

@@ -1,0 +1,45 @@
+-- The targets of the words of code, and the entries.
+use Rattle.std.proofs.Common.{◌⊎◌, ℕ, IsTrue, List, map, subst, take_all}
+use Rattle.std.specs.Prelude.{◌↔◌, Contains, IsSome}
+use Rattle.m88_base.specs.Image.{byte_at}
+use Rattle.m88_isa.specs.Address.{word_address}
+use Rattle.m88_sourcing.specs.Inside.Walks.{IsNamed}
+use Rattle.m88_sourcing.specs.Inside.Words.{has_word}
+use Rattle.m88_sourcing.specs.Labels.{IsTarget}
+use Rattle.m88_sourcing.proofs.Outlining.{entry_more, no_entry, with_target}
+use Rattle.m88_sourcing.proofs.reaching.outline_of.Goals as goal
+
+pub loop-entry-init : goal.loop-entry-init
+loop-entry-init c =
+    let image = c.args.image.now in
+    let code = c.in_ok-outline.ensures.code in
+    let named : (a : ℕ) → IsNamed image c.in_ok-outline.outline a ↔ IsTarget image c.args.entries.now a =
+    λ a. (λ n. (n.0, (code n.0).0 n.1, n.2), λ t. (t.0, (code t.0).1 t.1, t.2)) in
+    record {
+      code = code;
+      labels = λ a. no_entry a _ _ _ _ (c.in_ok-outline.ensures.names.labels a) (named a);
+      far = λ a. with_target _ _ _ _ (c.in_ok-outline.ensures.names.far a) (named a);
+    }
+
+pub loop-entry-preserved : goal.loop-entry-preserved
+loop-entry-preserved c = record {
+  code = c.loop-entry.invariant.code;
+  labels = λ a.
+      entry_more c.args.entries.now c.loop-entry.entry-index a _ _ _ _ c.loop-entry-test.true
+      (c.loop-entry.invariant.labels a) (c.in_ok-note_entry.ensures a);
+  far = c.loop-entry.invariant.far;
+}
+
+pub returns : goal.returns
+returns c =
+    let image = c.args.image.now in
+    record {
+      code = c.loop-entry.invariant.code;
+      labels = λ a.
+          subst
+          (λ (entries : List ℕ). IsTrue (has_word c.loop-entry.outline.labels a)
+          ↔ (IsSome (byte_at image a)
+          × (IsTarget image c.args.entries.now a ⊎ Contains (map word_address entries) a)))
+          (take_all c.loop-entry.entry-index c.args.entries.now c.loop-entry-test.false) (c.loop-entry.invariant.labels a);
+      far = c.loop-entry.invariant.far;
+    }

@@ -1,0 +1,69 @@
+//! Sets of addresses.
+ghost use Rattle.std.specs.Prelude.{◌≡◌, ◌⊎◌, ◌↔◌, ℕ, false, not, IfOk, IsTrue, OnOk};
+ghost use Rattle.m88_sourcing.specs.Inside.Words.{bits_at, has_word, is_set, row_of};
+
+use indexmap::IndexMap;
+use std::alloc::{AllocError, Global};
+
+/// A set of addresses. Each 32 of them that are 4 bytes apart, as those of words in a row are, share a row of bits.
+#[derive(Drop)]
+pub(crate) struct Words {
+    rows: IndexMap<u32, u32>,
+}
+
+/// The number of the row of an address.
+fn row_of(at: u32) -> u32
+    ensures { result ≡ row_of at }
+{
+    at / 128 * 4 + at % 4
+}
+
+/// Whether the bit of an address is set, in the bits of its row.
+fn is_set(bits: u32, at: u32) -> bool
+    ensures { result ≡ is_set bits at }
+{
+    (bits >> (at / 4 % 32)) % 2 == 1
+}
+
+impl Words {
+    /// No address.
+    pub fn new(alloc: Global) -> Words
+        ensures { (a : ℕ) → has_word result a ≡ false }
+    {
+        Words {
+            rows: IndexMap::new(alloc),
+        }
+    }
+
+    /// Whether an address is in the set.
+    pub fn contains(&self, at: u32) -> bool
+        ensures { result ≡ has_word self.now at }
+    {
+        is_set(self.bits_at(at), at)
+    }
+
+    /// Puts an address into the set. Whether it wasn't there.
+    pub fn insert(&mut self, at: u32) -> Result<bool, AllocError>
+        ensures new { IfOk result (λ is_new. is_new ≡ not (has_word self.old at)) }
+        ensures same { IfOk result (λ is_new. is_new ≡ false → self.new ≡ self.old) }
+        ensures has { OnOk result ((a : ℕ) → IsTrue (has_word self.new a)
+            ↔ (IsTrue (has_word self.old a) ⊎ (a ≡ at))) }
+    {
+        let bits = self.bits_at(at);
+        if is_set(bits, at) {
+            return Ok(false);
+        }
+        self.rows.insert(row_of(at), bits | 1 << (at / 4 % 32))?;
+        Ok(true)
+    }
+
+    /// The bits of the row of an address.
+    fn bits_at(&self, at: u32) -> u32
+        ensures { result ≡ bits_at self.now at }
+    {
+        match self.rows.get(&row_of(at)) {
+            Some(bits) => *bits,
+            None => 0,
+        }
+    }
+}
