@@ -61,6 +61,13 @@ no_byte_within image a k h low none =
     by f (suc (suc (suc zero))) l n = some_none (byte_at image (a + 3)) f.3 n
     by f (suc (suc (suc (suc j)))) l n = absurd (omega (arith, l))
 
+-- where no byte is no code is
+pub no_code_there : (image : ProgramImage) (entries : List ℕ) (a : ℕ) → byte_at image a ≡ None
+    → ¬ InCode image entries a
+no_code_there image entries a none is =
+    no_byte_within image (word_address a) (a - word_address a) (code_stands image entries (word_address a) is)
+    (omega arith) (ap (byte_at image) (let e : word_address a + (a - word_address a) ≡ a = omega arith in e) ∙ none)
+
 -- where a part begins within a word no instruction stands
 pub part_whole : (image : ProgramImage) (at : ℕ) (bytes : List ℕ) → IsPart (byte_at image) at bytes
     → HasInstruction image (word_address at) → at % 4 ≡ 0

@@ -22,3 +22,15 @@ pub mod Told
 pub mod Runs
 pub mod Rebuilt
 pub mod Targeting
+pub mod Lengthened
+pub mod Skeleton
+pub mod Bared
+pub mod Accepted
+pub mod Placing
+pub mod Rowed
+pub mod Moved
+pub mod Parted
+pub mod Branching
+pub mod Searching
+pub mod Inserted
+pub mod Lengthening

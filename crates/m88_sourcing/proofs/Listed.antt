@@ -21,6 +21,7 @@ use Rattle.m88_sourcing.specs.Data.AreDataLines.{item, no_line}
 use Rattle.m88_sourcing.specs.declared.item.Item.{Item}
 use Rattle.m88_sourcing.specs.declared.item.Item.TheVariants.{Zeros, Text, Words, Lone}
 use Rattle.m88_sourcing.proofs.Items.{item_fits, words_fit}
+use Rattle.m88_sourcing.proofs.Places.{AreNumbers, IsPlain}
 use Rattle.m88_sourcing.proofs.TextLines.{AllStand, AreWords, can_stand, said_text, said_words, said_zeros}
 
 -- zeros, a text and words give their bytes
@@ -214,6 +215,7 @@ record ItemTold (Named : Names) (number at : ℕ) (bytes : List ℕ) (x : Item) 
   said : SpokenAs number (item_line bytes x) statement
   gives : Gives Named at statement (take (item_length x) bytes)
   unnamed : names_of statement ≡ []
+  plain : IsPlain statement.body
 
 told_zeros : (Named : Names) (number at : ℕ) (bytes : List ℕ) → length bytes < 2 ^ 32
     → ItemTold Named number at bytes (Zeros (zeros_here bytes))
@@ -226,6 +228,7 @@ told_zeros Named number at bytes few =
           subst (Gives Named at (unlabelled number (body.Zero (zeros_here bytes)))) (sym (zeros_are bytes))
           (gives_zeros Named number at (zeros_here bytes));
       unnamed = refl;
+      plain = tt;
     }
 
 told_text : (Named : Names) (number at : ℕ) (bytes : List ℕ) → ItemTold Named number at bytes (Text (text_here bytes))
@@ -235,7 +238,12 @@ told_text Named number at bytes = record {
       (said_text number (take (text_here bytes) bytes) (text_stands bytes));
   gives = gives_text Named number at (take (text_here bytes) bytes);
   unnamed = refl;
+  plain = tt;
 }
+
+are_numbers : (ws : List ℕ) → AreNumbers (map (λ w. Number w) ws)
+are_numbers [] = tt
+are_numbers (w ∷ ws) = are_numbers ws
 
 told_words : (Named : Names) (number at : ℕ) (bytes : List ℕ) → AreBytes bytes
     → 0 < words_here most_in_line at bytes → ItemTold Named number at bytes (Words (words_here most_in_line at bytes))
@@ -253,6 +261,7 @@ told_words Named number at bytes small some = by (words_here most_in_line at byt
               (said_words number (from_be_bytes w32 (take 4 bytes)) (whole_words n (drop 4 bytes)) are.1);
           gives = subst (Gives Named at x) are.0 (gives_words Named number at ws (words_aligned at bytes some));
           unnamed = refl;
+          plain = are_numbers ws;
         }
 
 told_lone : (Named : Names) (number at : ℕ) (bytes : List ℕ) → 0 < length bytes → AreBytes bytes
@@ -263,6 +272,7 @@ told_lone Named number at (b ∷ bytes) some small = record {
   said = spoken number (lone_byte_line b) (body.Byte (b ∷ [])) (said_byte number b small.0);
   gives = gives_byte Named number at b;
   unnamed = refl;
+  plain = tt;
 }
 
 told_item : (Named : Names) (number at : ℕ) (bytes : List ℕ) → 0 < length bytes → length bytes < 2 ^ 32
@@ -299,29 +309,40 @@ pub record ListedData (Named : Names) (number at : ℕ) (bytes : List ℕ) (line
   pub listed : Listed Named number at bytes lines
   pub unnamed : names_in listed.statements ≡ []
 
+-- and use none
+pub record ListedPlain (Named : Names) (number at : ℕ) (bytes : List ℕ) (lines : List (List ℕ)) : Type 0 where
+  pub own : ListedData Named number at bytes lines
+  pub plain : AllByRecursion (λ x. IsPlain x.body) own.listed.statements
+
 pub listed_data : (Named : Names) (number at : ℕ) (bytes : List ℕ) (lines : List (List ℕ)) → length bytes < 2 ^ 32
-    → AreBytes bytes → AreDataLines at bytes lines → ListedData Named number at bytes lines
+    → AreBytes bytes → AreDataLines at bytes lines → ListedPlain Named number at bytes lines
 listed_data Named number at _ _ few small no_line =
-    record { listed = record { statements = []; stated = tt; datas = no_data }; unnamed = refl }
+    record {
+      own = record { listed = record { statements = []; stated = tt; datas = no_data }; unnamed = refl };
+      plain = tt;
+    }
 listed_data Named number at bytes _ few small (item {n = n} {lines = lines} some is rest) =
     let x : Item = item_here at bytes in
     let told : ItemTold Named number at bytes x = told_item Named number at bytes some few small in
     let fits : n ≤ length bytes = let f = (item_fits at bytes).1 some in omega (arith, is, f) in
     let left = length-drop n bytes in
-    let others : ListedData Named (number + 1) (at + n) (drop n bytes) lines =
+    let others : ListedPlain Named (number + 1) (at + n) (drop n bytes) lines =
     listed_data Named (number + 1) (at + n) (drop n bytes) lines (omega (arith, left, few)) (bytes_dropped n bytes small)
     rest in
     let given : List ℕ = take (item_length x) bytes in
     let same : given ≡ take n bytes = ap (λ (k : ℕ). take k bytes) (sym is) in
     let size : length given ≡ n = ap length same ∙ length-take-le n bytes fits in
+    let later : Listed Named (number + 1) (at + n) (drop n bytes) lines = others.own.listed in
     record {
-      listed = record {
-        statements = told.statement ∷ others.listed.statements;
-        stated = (told.said, others.listed.stated);
-        datas = more_data given (drop n bytes)
-            (sym (take-append-drop n bytes) ∙ ap (λ (xs : List ℕ). xs ++ drop n bytes) (sym same)) told.gives
-            (subst (λ (k : ℕ). Data Named (at + k) (drop n bytes) others.listed.statements) (sym size)
-            others.listed.datas);
+      own = record {
+        listed = record {
+          statements = told.statement ∷ later.statements;
+          stated = (told.said, later.stated);
+          datas = more_data given (drop n bytes)
+              (sym (take-append-drop n bytes) ∙ ap (λ (xs : List ℕ). xs ++ drop n bytes) (sym same)) told.gives
+              (subst (λ (k : ℕ). Data Named (at + k) (drop n bytes) later.statements) (sym size) later.datas);
+        };
+        unnamed = ap (λ (ns : List (List ℕ)). ns ++ names_in later.statements) told.unnamed ∙ others.own.unnamed;
       };
-      unnamed = ap (λ (ns : List (List ℕ)). ns ++ names_in others.listed.statements) told.unnamed ∙ others.unnamed;
+      plain = (told.plain, others.plain);
     }

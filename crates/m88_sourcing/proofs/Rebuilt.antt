@@ -26,24 +26,19 @@ use Rattle.m88_isa.specs.declared.instr.Instr.{Instr}
 use Rattle.m88_parse.specs.Language.Units.{IsUnit}
 use Rattle.m88_sourcing.specs.Flow.{branch_target}
 use Rattle.m88_sourcing.specs.Code.{InCode, IsCode, HoldsInstruction}
-use Rattle.m88_sourcing.specs.Labels.{HasLabel, IsTarget, label_of}
+use Rattle.m88_sourcing.specs.Labels.{IsTarget, label_of}
 use Rattle.m88_sourcing.specs.Source.{AreFar, AreSourceLines, IsSource, LineWhere, far_line}
 use Rattle.m88_sourcing.specs.Source.LineWhere.{so, not_so}
 use Rattle.m88_sourcing.specs.Source.AreSourceLines.{no_part, part}
 use Rattle.m88_sourcing.proofs.Cutting.{code_stands, no_byte_within, part_whole}
 use Rattle.m88_sourcing.proofs.Labelled.{said_far}
 use Rattle.m88_sourcing.proofs.Names.{IsNameable, NameOnly, are_low, mean_one, name_before, name_behind, named, once_both, one_name, only_more, other_bytes}
-use Rattle.m88_sourcing.proofs.Places.{HasAt, IsBranchTo, anywhere, no_branch}
-use Rattle.m88_sourcing.proofs.Runs.{Follow, ToldPart, ToldRuns, follow_order, runs_both, runs_none, told_pieces}
-use Rattle.m88_sourcing.proofs.Told.{Among, target_low}
+use Rattle.m88_sourcing.proofs.Places.{HasAt, IsBranchTo}
+use Rattle.m88_sourcing.proofs.Runs.{InParts, ToldPart, ToldRuns, follow_order, runs_both, runs_from, runs_none, told_pieces}
+use Rattle.m88_sourcing.proofs.Told.{Among, AreThose, target_low}
 
 -- the parts
--- one of the parts has a byte at an address
-abbrev pub InParts : List Placed → ℕ → Type 0
-InParts [] a = ⊥
-InParts (run ∷ runs) a = Among run.at (length run.bytes) a ⊎ InParts runs a
-
-in_above : (from a : ℕ) (runs : List Placed) → AreApart from runs → InParts runs a → from ≤ a
+pub in_above : (from a : ℕ) (runs : List Placed) → AreApart from runs → InParts runs a → from ≤ a
 in_above from a [] apart h = absurd h
 in_above from a (run ∷ runs) apart (inl h) = let x = h.0 in let y = apart.0 in omega (arith, x, y)
 in_above from a (run ∷ runs) apart (inr h) =
@@ -56,10 +51,6 @@ not_both from a run runs apart h k =
     let y = in_above (run.at + length run.bytes + 1) a runs apart.2 k in
     absurd (omega (arith, x, y))
 
-follow_from : (low from to : ℕ) (runs : List Placed) → low ≤ from → Follow from runs to → Follow low runs to
-follow_from low from to [] h k = omega (arith, h, k)
-follow_from low from to (run ∷ runs) h k = (let l = k.0 in omega (arith, h, l), k.1)
-
 -- each part of an image is all that stands there
 abbrev pub EachPart : ProgramImage → List Placed → Type 0
 EachPart image runs = AllByRecursion (λ run. IsPart (byte_at image) run.at run.bytes) runs
@@ -71,11 +62,12 @@ pub record ToldParts (image : ProgramImage) (entries : List ℕ) (number from : 
   pub bytes_are : (a : ℕ) → byte_among told.runs a ≡ byte_among runs a
   pub count : count_among told.runs ≡ count_among runs
 
-instruction_first : (image : ProgramImage) (entries : List ℕ) (run : Placed)
+pub instruction_first : (image : ProgramImage) (entries : List ℕ) (run : Placed)
     → IsPart (byte_at image) run.at run.bytes → 0 < length run.bytes → InCode image entries run.at → run.at % 4 ≡ 0
 instruction_first image entries run is some c = part_whole image run.at run.bytes is (code_stands image entries _ c)
 
-told_parts : (image : ProgramImage) (entries : List ℕ) (number from : ℕ) (runs : List Placed) (lines : List (List ℕ))
+pub told_parts : (image : ProgramImage) (entries : List ℕ) (number from : ℕ) (runs : List Placed)
+    (lines : List (List ℕ))
     → AreApart from runs → ArePieces runs → count_among runs ≤ most_bytes → EachPart image runs
     → AreSourceLines (λ _. []) image entries runs lines → ToldParts image entries number from runs lines
 told_parts image entries number from _ _ apart pieces few each no_part = record {
@@ -100,30 +92,8 @@ told_parts image entries number from _ _ apart pieces few each
       told = runs_both image entries number later from end others.to own lines (Among run.at (length run.bytes))
           (InParts runs) (Among run.at (length run.bytes)) (InParts runs) (Among run.at (length run.bytes) image.start) (InParts runs image.start) refl
           (λ a. not_both from a run runs apart) (not_both from image.start run runs apart)
-          (record {
-            runs = p.told.runs;
-            statements = p.told.statements;
-            stated = p.told.stated;
-            datas = p.told.datas;
-            those = p.told.those;
-            branches = λ a w is i t stands e.
-                anywhere (IsBranchTo a i t) (named image entries) run.at from p.told.runs p.told.statements
-                (no_branch a i t) p.told.datas (p.told.branches a w is i t stands e);
-            pieces = p.told.pieces;
-            order = follow_from from run.at end p.told.runs apart.0 p.told.order;
-          })
-          (record {
-            runs = others.told.runs;
-            statements = others.told.statements;
-            stated = others.told.stated;
-            datas = others.told.datas;
-            those = others.told.those;
-            branches = λ a w is i t stands e.
-                anywhere (IsBranchTo a i t) (named image entries) (end + 1) end others.told.runs others.told.statements
-                (no_branch a i t) others.told.datas (others.told.branches a w is i t stands e);
-            pieces = others.told.pieces;
-            order = follow_from end (end + 1) others.to others.told.runs (omega arith) others.told.order;
-          });
+          (runs_from image entries number from run.at end own _ _ _ apart.0 p.told)
+          (runs_from image entries later end (end + 1) others.to lines _ _ _ (omega arith) others.told);
       bytes_are = λ a.
           byte_among-append p.told.runs others.told.runs a
           ∙ ap (λ (o : Option ℕ). option_or o (byte_among others.told.runs a)) (p.bytes_are a)
@@ -134,7 +104,7 @@ told_parts image entries number from _ _ apart pieces few each
     }
 
 -- a byte is in a part
-in_part : (runs : List Placed) (a : ℕ) → IsSome (byte_among runs a) → InParts runs a
+pub in_part : (runs : List Placed) (a : ℕ) → IsSome (byte_among runs a) → InParts runs a
 in_part [] a some = absurd cc
 in_part (run ∷ runs) a some = elim (cases_lt a run.at) [
   | inl low ↦
@@ -241,20 +211,20 @@ none_before [] = tt
 none_before (t ∷ ts) = (tt, none_before ts)
 
 -- the statements in front of the parts
-record Front (image : ProgramImage) (entries far : List ℕ) (lines : List (List ℕ)) : Type 0 where
-  statements : List Statement
-  stated : Stated 1 lines statements
-  are_sets : Sets (named image entries) statements
-  only : NameOnly (λ a. byte_at image a ≡ None) (IsCode image entries image.start → ⊥) (names_in statements)
-  once : AreOnce [] (names_in statements)
-  far_named : (t : ℕ) → Contains far t → HasName (label_of t) (names_in statements)
-  start : HasName (codes "_start") (names_in statements) ⊎ ((IsCode image entries image.start → ⊥) → ⊥)
+pub record Front (image : ProgramImage) (entries far : List ℕ) (lines : List (List ℕ)) : Type 0 where
+  pub statements : List Statement
+  pub stated : Stated 1 lines statements
+  pub are_sets : Sets (named image entries) statements
+  pub only : NameOnly (λ a. byte_at image a ≡ None) (IsCode image entries image.start → ⊥) (names_in statements)
+  pub once : AreOnce [] (names_in statements)
+  pub far_named : (t : ℕ) → Contains far t → HasName (label_of t) (names_in statements)
+  pub start : HasName (codes "_start") (names_in statements) ⊎ ((IsCode image entries image.start → ⊥) → ⊥)
 
 start_only : (image : ProgramImage) (entries : List ℕ) → (IsCode image entries image.start → ⊥)
     → NameOnly (λ a. ⊥) (IsCode image entries image.start → ⊥) (codes "_start" ∷ [])
 start_only image entries none = (inl (refl, none), tt)
 
-front : (image : ProgramImage) (entries far : List ℕ) (start : List (List ℕ)) → image.start < 2 ^ 32
+pub front : (image : ProgramImage) (entries far : List ℕ) (start : List (List ℕ)) → image.start < 2 ^ 32
     → LineWhere (¬ IsCode image entries image.start) (start_line image.start) start → AreFar image entries far
     → Front image entries far (start ++ map far_line far)
 front image entries far start low is_start are = by start is_start
@@ -319,7 +289,7 @@ sets_behind image entries _ ys no_set k = k
 sets_behind image entries _ ys (a_set {xs = xs} n name col value is others) k =
     a_set n name col value is (sets_behind image entries xs ys others k)
 
-each_part : (image : ProgramImage) → IsImage image → (from : List Placed) (runs : List Placed)
+pub each_part : (image : ProgramImage) → IsImage image → (from : List Placed) (runs : List Placed)
     → parts image ≡ from ++ runs → EachPart image runs
 unfolding byte_at
 each_part image is from [] all = tt
@@ -336,6 +306,68 @@ each_part image is from (run ∷ runs) all =
     get_behind [] = refl
     get_behind (x ∷ xs) = get_behind xs
 
+-- each name of a source is defined, once
+pub record AreDefined (image : ProgramImage) (entries : List ℕ) (first last : List (List ℕ)) : Type 0 where
+  pub once : AreOnce [] (first ++ last)
+  pub defined : (name : List ℕ) (a : ℕ) → named image entries name a → HasName name (first ++ last)
+
+pub code_some : (image : ProgramImage) (entries : List ℕ) (a : ℕ) → IsCode image entries a → IsSome (byte_at image a)
+code_some image entries a code = by (byte_at image a) refl
+  where
+    by : (o : Option ℕ) → byte_at image a ≡ o → IsSome (byte_at image a)
+    by (Some b) e = subst IsSome (sym e) refl
+    by None e =
+        absurd (no_byte_within image a 0 (code_stands image entries a code) (omega arith)
+        (ap (byte_at image) (let f : a + 0 ≡ a = omega arith in f) ∙ e))
+
+pub are_defined : (image : ProgramImage) (entries far : List ℕ) (lines : List (List ℕ)) → AreFar image entries far
+    → (f : Front image entries far lines) (last : List (List ℕ))
+    → AreThose image entries last (InParts (parts image)) (InParts (parts image) image.start)
+    → AreDefined image entries (names_in f.statements) last
+unfolding byte_at
+are_defined image entries far lines are_far f last those = record {
+  once = once_both (λ a. byte_at image a ≡ None) (λ a. IsSome (byte_at image a)) (IsCode image entries image.start → ⊥)
+      (IsCode image entries image.start) first last (λ a h k. some_not (byte_at image a) k h) (λ h k. h k) f.only
+      (only_more _ _ _ _ last (λ a h. h.1) (λ h. h.1) those.only) f.once those.once;
+  defined = λ name a h. defined name a h.1;
+}
+  where
+    first : List (List ℕ)
+    first = names_in f.statements
+
+    some_not : (o : Option ℕ) → IsSome o → o ≡ None → ⊥
+    some_not (Some b) some e = absurd cc
+    some_not None some e = absurd cc
+
+    start_by : HasName (codes "_start") first ⊎ ((IsCode image entries image.start → ⊥) → ⊥)
+        → HasName (codes "_start") (first ++ last)
+    start_by (inl has) = name_before (codes "_start") first last has
+    start_by (inr double) =
+        elim (has_byte (byte_at image image.start) refl) [
+          | inl some ↦ elim (those.start (in_part (parts image) image.start some)) [
+            | inl has ↦ name_behind (codes "_start") first last has
+            | inr none ↦ absurd (double none)
+          ]
+          | inr none ↦ absurd (double (λ code. some_not (byte_at image image.start)
+              (code_some image entries image.start code) none))
+        ]
+      where
+        has_byte : (o : Option ℕ) → byte_at image image.start ≡ o
+            → IsSome (byte_at image image.start) ⊎ (byte_at image image.start ≡ None)
+        has_byte (Some b) e = inl (subst IsSome (sym e) refl)
+        has_byte None e = inr e
+
+    defined : (name : List ℕ) (a : ℕ)
+        → ((name ≡ codes "_start") × (a ≡ image.start)) ⊎ ((name ≡ label_of a) × IsNameable image entries a)
+        → HasName name (first ++ last)
+    defined name a (inl x) = subst (λ (n : List ℕ). HasName n (first ++ last)) (sym x.0) (start_by f.start)
+    defined name a (inr (e, inl label)) =
+        subst (λ (n : List ℕ). HasName n (first ++ last)) (sym e)
+        (name_behind (label_of a) first last (those.labels a (in_part (parts image) a label.0) label))
+    defined name a (inr (e, inr is_far)) =
+        subst (λ (n : List ℕ). HasName n (first ++ last)) (sym e)
+        (name_before (label_of a) first last (f.far_named a ((are_far.exactly a).1 is_far)))
+
 pub source_made : (image : ProgramImage) (entries text : List ℕ) → IsImage image → IsSource image entries text
     → IsMade image entries text
 unfolding byte_at byte_count
@@ -349,9 +381,9 @@ source_made image entries text is s =
     told_parts image entries later 0 runs s.lines is.apart pieces is.few (each_part image is [] runs refl) s.are_lines in
     let names : names_in (f.statements ++ t.told.statements) ≡ names_in f.statements ++ names_in t.told.statements =
     flat_map-append names_of f.statements t.told.statements in
-    let first : List (List ℕ) = names_in f.statements in
-    let last : List (List ℕ) = names_in t.told.statements in
-    let start : HasName (codes "_start") (first ++ last) = start_defined first last f.start t.told.those.start in
+    let all : AreDefined image entries (names_in f.statements) (names_in t.told.statements) =
+    are_defined image entries s.far (s.start ++ map far_line s.far) s.are_far f (names_in t.told.statements)
+    t.told.those in
     record {
       runs = t.told.runs;
       sets = f.statements;
@@ -361,12 +393,8 @@ source_made image entries text is s =
         datas = t.told.datas;
         low = are_low image entries;
         one = mean_one image entries;
-        once =
-            subst (AreOnce []) (sym names)
-            (once_both (λ a. byte_at image a ≡ None) (λ a. IsSome (byte_at image a)) (IsCode image entries image.start → ⊥)
-            (IsCode image entries image.start) first last (λ a h k. some_not (byte_at image a) k h) (λ h k. h k) f.only
-            (only_more _ _ _ _ last (λ a h. h.1) (λ h. h.1) t.told.those.only) f.once t.told.those.once);
-        defined = λ name a h. subst (HasName name) (sym names) (defined first last name a h.1 start t.told.those.labels f.far_named);
+        once = subst (AreOnce []) (sym names) all.once;
+        defined = λ name a h. subst (HasName name) (sym names) (all.defined name a h);
         starts = (is.start, inl (refl, refl));
         pieces = t.told.pieces;
         order = follow_order 0 t.to t.told.runs t.told.order;
@@ -378,57 +406,8 @@ source_made image entries text is s =
           (stated_behind 1 later (s.start ++ map far_line s.far) s.lines f.statements t.told.statements refl f.stated
           t.told.stated);
       same = t.bytes_are;
-      branches = λ a code.
-          t.told.branches a (in_part runs a (code_some (byte_at image a) a refl code)) code;
+      branches = λ a code. t.told.branches a (in_part runs a (code_some image entries a code)) code;
     }
-  where
-    some_not : (o : Option ℕ) → IsSome o → o ≡ None → ⊥
-    some_not (Some b) some e = absurd cc
-    some_not None some e = absurd cc
-
-    code_some : (o : Option ℕ) (a : ℕ) → byte_at image a ≡ o → IsCode image entries a → IsSome (byte_at image a)
-    code_some (Some b) a e code = subst IsSome (sym e) refl
-    code_some None a e code =
-        absurd (no_byte_within image a 0 (code_stands image entries a code) (omega arith)
-        (ap (byte_at image) (let f : a + 0 ≡ a = omega arith in f) ∙ e))
-
-    start_defined : (first last : List (List ℕ))
-        → HasName (codes "_start") first ⊎ ((IsCode image entries image.start → ⊥) → ⊥)
-        → (InParts (parts image) image.start → HasName (codes "_start") last ⊎ (IsCode image entries image.start → ⊥))
-        → HasName (codes "_start") (first ++ last)
-    start_defined first last (inl has) within = name_before (codes "_start") first last has
-    start_defined first last (inr double) within =
-        elim (has_byte (byte_at image image.start) refl) [
-          | inl some ↦ elim (within (in_part (parts image) image.start some)) [
-            | inl has ↦ name_behind (codes "_start") first last has
-            | inr none ↦ absurd (double none)
-          ]
-          | inr none ↦ absurd (double (λ code. no_code none code))
-        ]
-      where
-        has_byte : (o : Option ℕ) → byte_at image image.start ≡ o
-            → IsSome (byte_at image image.start) ⊎ (byte_at image image.start ≡ None)
-        has_byte (Some b) e = inl (subst IsSome (sym e) refl)
-        has_byte None e = inr e
-
-        no_code : byte_at image image.start ≡ None → IsCode image entries image.start → ⊥
-        no_code none code =
-            no_byte_within image image.start 0 (code_stands image entries image.start code) (omega arith)
-            (ap (byte_at image) (let e : image.start + 0 ≡ image.start = omega arith in e) ∙ none)
-
-    defined : (first last : List (List ℕ)) (name : List ℕ) (a : ℕ)
-        → ((name ≡ codes "_start") × (a ≡ image.start)) ⊎ ((name ≡ label_of a) × IsNameable image entries a)
-        → HasName (codes "_start") (first ++ last)
-        → ((b : ℕ) → InParts (parts image) b → HasLabel image entries b → HasName (label_of b) last)
-        → ((b : ℕ) → Contains s.far b → HasName (label_of b) first) → HasName name (first ++ last)
-    defined first last name a (inl x) start labels far =
-        subst (λ (n : List ℕ). HasName n (first ++ last)) (sym x.0) start
-    defined first last name a (inr (e, inl label)) start labels far =
-        subst (λ (n : List ℕ). HasName n (first ++ last)) (sym e)
-        (name_behind (label_of a) first last (labels a (in_part (parts image) a label.0) label))
-    defined first last name a (inr (e, inr is_far)) start labels far =
-        subst (λ (n : List ℕ). HasName n (first ++ last)) (sym e)
-        (name_before (label_of a) first last (far a ((s.are_far.exactly a).1 is_far)))
 
 -- so `build` of it makes the image
 pub source_again : (image : ProgramImage) (entries text : List ℕ) → IsImage image → IsSource image entries text

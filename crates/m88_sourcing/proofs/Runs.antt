@@ -14,13 +14,13 @@ use Rattle.m88_parse.specs.declared.unit.Body.TheVariants as body
 use Rattle.m88_parse.specs.declared.unit.Statement.{Statement}
 use Rattle.m88_disasm.specs.Listing.{place_line}
 use Rattle.m88_disasm.specs.Read.{unlabelled}
-use Rattle.m88_disasm.proofs.Laws.{AreBytes, AreInOrder, ArePieces, PartsData, Stated, more_parts, names_in, names_of, no_parts, none_in, said_place, spoken, stated_behind}
+use Rattle.m88_disasm.proofs.Laws.{AreBytes, AreInOrder, ArePieces, Names, PartsData, Stated, more_parts, names_in, names_of, no_parts, none_in, said_place, spoken, stated_behind}
 use Rattle.m88_sourcing.specs.Code.{InCode, IsCode}
-use Rattle.m88_sourcing.specs.Source.{ArePieceLines}
+use Rattle.m88_sourcing.specs.Source.{AreCodeLines, AreLooseLines, ArePieceLines, IsPiece}
 use Rattle.m88_sourcing.specs.Source.ArePieceLines.{code, loose, no_piece}
 use Rattle.m88_sourcing.proofs.Listed.{bytes_dropped, bytes_taken}
 use Rattle.m88_sourcing.proofs.Names.{named}
-use Rattle.m88_sourcing.proofs.Places.{IsBranchTo, anywhere, has_behind_parts, has_in_front, no_branch}
+use Rattle.m88_sourcing.proofs.Places.{AllAt, IsBranchTo, IsSimple, all_anywhere, all_behind_parts, anywhere, has_behind_parts, has_in_front, no_branch}
 use Rattle.m88_sourcing.proofs.Told.{Among, AreThose, HasBranches, HasBytes, Told, has_behind, has_front, those_as, those_both, those_none, told_code, told_loose}
 
 -- parts that follow one another from an address on and end before another
@@ -42,15 +42,42 @@ pub pieces_behind : (xs ys : List Placed) → ArePieces xs → ArePieces ys → 
 pieces_behind [] ys h k = k
 pieces_behind (x ∷ xs) ys h k = (h.0, h.1, h.2, pieces_behind xs ys h.3 k)
 
-pub parts_behind : (image : ProgramImage) (entries : List ℕ) (rs ss : List Placed) (xs ys : List Statement)
-    → PartsData (named image entries) rs xs → PartsData (named image entries) ss ys
-    → PartsData (named image entries) (rs ++ ss) (xs ++ ys)
-parts_behind image entries _ ss _ ys no_parts rest = rest
-parts_behind image entries _ ss xs ys (more_parts {run = run} {runs = runs} n own more are datas others) rest =
+pub parts_behind : (Named : Names) (rs ss : List Placed) (xs ys : List Statement) → PartsData Named rs xs
+    → PartsData Named ss ys → PartsData Named (rs ++ ss) (xs ++ ys)
+parts_behind Named _ ss _ ys no_parts rest = rest
+parts_behind Named _ ss xs ys (more_parts {run = run} {runs = runs} n own more are datas others) rest =
     more_parts n own (more ++ ys)
     (ap (λ (zs : List Statement). zs ++ ys) are
     ∙ ap (λ (zs : List Statement). unlabelled n (body.At run.at) ∷ zs) (append_assoc own more ys)) datas
-    (parts_behind image entries runs ss more ys others rest)
+    (parts_behind Named runs ss more ys others rest)
+
+-- one of the parts has a byte at an address
+abbrev pub InParts : List Placed → ℕ → Type 0
+InParts [] a = ⊥
+InParts (run ∷ runs) a = Among run.at (length run.bytes) a ⊎ InParts runs a
+
+pub in_front : (xs ys : List Placed) (a : ℕ) → InParts xs a → InParts (xs ++ ys) a
+in_front [] ys a h = absurd h
+in_front (x ∷ xs) ys a (inl h) = inl h
+in_front (x ∷ xs) ys a (inr h) = inr (in_front xs ys a h)
+
+pub in_behind : (xs ys : List Placed) (a : ℕ) → InParts ys a → InParts (xs ++ ys) a
+in_behind [] ys a h = h
+in_behind (x ∷ xs) ys a h = inr (in_behind xs ys a h)
+
+-- the image has the bytes of each part where it stands
+abbrev pub EachHas : ProgramImage → List Placed → Type 0
+EachHas image [] = Unit {0}
+EachHas image (run ∷ runs) = HasBytes image run.at run.bytes × EachHas image runs
+
+pub each_behind : (image : ProgramImage) (xs ys : List Placed) → EachHas image xs → EachHas image ys
+    → EachHas image (xs ++ ys)
+each_behind image [] ys h k = k
+each_behind image (x ∷ xs) ys h k = (h.0, each_behind image xs ys h.1 k)
+
+pub follow_from : (low from to : ℕ) (runs : List Placed) → low ≤ from → Follow from runs to → Follow low runs to
+follow_from low from to [] h k = omega (arith, h, k)
+follow_from low from to (run ∷ runs) h k = (let l = k.0 in omega (arith, h, l), k.1)
 
 -- lines as the statements of parts, with the labels and the mark of the start that stand at addresses of a kind
 pub record ToldRuns (image : ProgramImage) (entries : List ℕ) (number from to : ℕ) (lines : List (List ℕ))
@@ -61,7 +88,10 @@ pub record ToldRuns (image : ProgramImage) (entries : List ℕ) (number from to 
   pub datas : PartsData (named image entries) runs statements
   pub those : AreThose image entries (names_in statements) Kind Start
   pub branches : HasBranches image entries Word from statements
+  pub simple : AllAt (IsSimple image entries) from statements
   pub pieces : ArePieces runs
+  pub has : EachHas image runs
+  pub covers : (a : ℕ) → Kind a → InParts runs a
   pub order : Follow from runs to
 
 abbrev pub runs_as : (image : ProgramImage) (entries : List ℕ) (number from to : ℕ) (lines : List (List ℕ))
@@ -75,7 +105,10 @@ runs_as image entries number from to lines K L V W S T onto back words on off t 
   datas = t.datas;
   those = those_as image entries _ K L S T onto back on off t.those;
   branches = λ a w. t.branches a (words a w);
+  simple = t.simple;
   pieces = t.pieces;
+  has = t.has;
+  covers = λ a l. t.covers a (back a l);
   order = t.order;
 }
 
@@ -88,7 +121,7 @@ runs_both image entries number later from middle to ls ms K L V W S T later_is a
   runs = t.runs ++ u.runs;
   statements = t.statements ++ u.statements;
   stated = stated_behind number later ls ms t.statements u.statements later_is t.stated u.stated;
-  datas = parts_behind image entries t.runs u.runs t.statements u.statements t.datas u.datas;
+  datas = parts_behind (named image entries) t.runs u.runs t.statements u.statements t.datas u.datas;
   those =
       subst (λ (ns : List (List ℕ)). AreThose image entries ns (λ a. K a ⊎ L a) (S ⊎ T))
       (sym (flat_map-append names_of t.statements u.statements))
@@ -102,8 +135,36 @@ runs_both image entries number later from middle to ls ms K L V W S T later_is a
         (λ q. anywhere (IsBranchTo a i to_address) (named image entries) middle q u.runs u.statements
         (no_branch a i to_address) u.datas (u.branches a v is i to_address stands e))
   ];
+  simple =
+      all_behind_parts image entries (named image entries) from t.runs t.statements u.statements t.datas t.simple
+      (λ q. all_anywhere image entries (named image entries) middle q u.runs u.statements u.datas u.simple);
   pieces = pieces_behind t.runs u.runs t.pieces u.pieces;
+  has = each_behind image t.runs u.runs t.has u.has;
+  covers = λ a m. elim m [
+    | inl k ↦ in_front t.runs u.runs a (t.covers a k)
+    | inr l ↦ in_behind t.runs u.runs a (u.covers a l)
+  ];
   order = follow_on from middle to t.runs u.runs t.order u.order;
+}
+
+-- the same from a lower address on
+abbrev pub runs_from : (image : ProgramImage) (entries : List ℕ) (number low from to : ℕ) (lines : List (List ℕ))
+    (K W : ℕ → Type 0) (S : Type 0) → low ≤ from
+    → ToldRuns image entries number from to lines K W S → ToldRuns image entries number low to lines K W S
+runs_from image entries number low from to lines K W S below t = record {
+  runs = t.runs;
+  statements = t.statements;
+  stated = t.stated;
+  datas = t.datas;
+  those = t.those;
+  branches = λ a w is i to_address stands e.
+      anywhere (IsBranchTo a i to_address) (named image entries) from low t.runs t.statements (no_branch a i to_address)
+      t.datas (t.branches a w is i to_address stands e);
+  simple = all_anywhere image entries (named image entries) from low t.runs t.statements t.datas t.simple;
+  pieces = t.pieces;
+  has = t.has;
+  covers = t.covers;
+  order = follow_from low from to t.runs below t.order;
 }
 
 abbrev pub runs_none : (image : ProgramImage) (entries : List ℕ) (number at : ℕ)
@@ -115,7 +176,10 @@ runs_none image entries number at = record {
   datas = no_parts;
   those = those_none image entries;
   branches = λ a h. absurd h;
+  simple = tt;
   pieces = tt;
+  has = tt;
+  covers = λ a h. absurd h;
   order = omega arith;
 }
 
@@ -167,9 +231,10 @@ or_none (Some b) = refl
 -- a piece
 part_of : (image : ProgramImage) (entries : List ℕ) (number at : ℕ) (bytes : List ℕ) (lines : List (List ℕ))
     (K : ℕ → Type 0) (S : Type 0) → AreBytes bytes → 0 < length bytes → at + length bytes ≤ 2 ^ 32
+    → HasBytes image at bytes → ((a : ℕ) → K a → Among at (length bytes) a)
     → Told image entries (number + 1) at bytes lines K K S
     → ToldPart image entries number at (at + length bytes) bytes (place_line at ∷ lines) K S
-part_of image entries number at bytes lines K S small some low t =
+part_of image entries number at bytes lines K S small some low has among t =
     let xs : List Statement = t.listed.statements in
     record {
       told = record {
@@ -183,7 +248,10 @@ part_of image entries number at bytes lines K S small some low t =
         those = subst (λ (ys : List Statement). AreThose image entries (names_in ys) K S) (sym (append-nil xs)) t.those;
         branches = λ a w is i t_address stands e.
             inr (has_in_front (IsBranchTo a i t_address) at xs [] (t.branches a w is i t_address stands e));
+        simple = (inl tt, subst (AllAt (IsSimple image entries) at) (sym (append-nil xs)) t.simple);
         pieces = (small, some, low, tt);
+        has = (has, tt);
+        covers = λ a k. inl (among a k);
         order = (omega arith, omega arith);
       };
       ends = refl;
@@ -204,24 +272,35 @@ either_among at m n a h = elim (cases_lt a (at + m)) [
 not_either : (at m n : ℕ) (a : ℕ) → Among at m a → Among (at + m) n a → ⊥
 not_either at m n a h k = let x = h.1 in let y = k.0 in absurd (omega (arith, x, y))
 
+-- the first n bytes as a piece
+pub piece_part : (image : ProgramImage) (entries : List ℕ) (number at n : ℕ) (bytes : List ℕ) (own : List (List ℕ))
+    → n ≤ length bytes → 0 < n → AreBytes bytes → at + length bytes ≤ 2 ^ 32 → HasBytes image at bytes
+    → Told image entries (number + 1) at (take n bytes) own (Among at n) (Among at n) (Among at n image.start)
+    → ToldPart image entries number at (at + n) (take n bytes) (place_line at ∷ own) (Among at n)
+    (Among at n image.start)
+piece_part image entries number at n bytes own within some small low has t =
+    let size = length-take-le n bytes within in
+    subst (λ (k : ℕ). ToldPart image entries number at (at + k) (take n bytes) (place_line at ∷ own) (Among at n)
+    (Among at n image.start)) size
+    (part_of image entries number at (take n bytes) own (Among at n) (Among at n image.start)
+    (bytes_taken n bytes small)
+    (omega (arith, size, some)) (omega (arith, size, within, low)) (has_front image at n bytes within has)
+    (λ a h. let x = h.0 in let y = h.1 in (x, omega (arith, y, size))) t)
+
 -- a piece before the others of its part
 piece_before : (image : ProgramImage) (entries : List ℕ) (number later at to n : ℕ) (bytes : List ℕ)
     (own lines : List (List ℕ)) → n ≤ length bytes → 0 < n → AreBytes bytes → at + length bytes ≤ 2 ^ 32
-    → later ≡ number + length (place_line at ∷ own)
+    → HasBytes image at bytes → later ≡ number + length (place_line at ∷ own)
     → Told image entries (number + 1) at (take n bytes) own (Among at n) (Among at n) (Among at n image.start)
     → ToldPart image entries later (at + n) to (drop n bytes) lines (Among (at + n) (length bytes - n))
     (Among (at + n) (length bytes - n) image.start)
     → ToldPart image entries number at to bytes (place_line at ∷ own ++ lines) (Among at (length bytes))
     (Among at (length bytes) image.start)
-piece_before image entries number later at to n bytes own lines within some small low later_is t p =
-    let size = length-take-le n bytes within in
+piece_before image entries number later at to n bytes own lines within some small low has later_is t p =
     let rest : ℕ = length bytes - n in
     let first : ToldPart image entries number at (at + n) (take n bytes) (place_line at ∷ own) (Among at n)
     (Among at n image.start) =
-    subst (λ (k : ℕ). ToldPart image entries number at (at + k) (take n bytes) (place_line at ∷ own) (Among at n)
-    (Among at n image.start)) size
-    (part_of image entries number at (take n bytes) own (Among at n) (Among at n image.start) (bytes_taken n bytes small)
-    (omega (arith, size, some)) (omega (arith, size, within, low)) t) in
+    piece_part image entries number at n bytes own within some small low has t in
     let both : ToldPart image entries number at to (take n bytes ++ drop n bytes) (place_line at ∷ own ++ lines)
     (λ a. Among at n a ⊎ Among (at + n) rest a) (Among at n image.start ⊎ Among (at + n) rest image.start) =
     part_both image entries number later at (at + n) to (take n bytes) (drop n bytes) (place_line at ∷ own) lines
@@ -240,7 +319,7 @@ piece_before image entries number later at to n bytes own lines within some smal
     (Among at (n + rest)) (Among at (n + rest) image.start)) (take-append-drop n bytes) all)
 
 -- behind bytes that are no code a word of code begins
-loose_whole : (image : ProgramImage) (entries : List ℕ) (at n : ℕ) → 0 < n
+pub loose_whole : (image : ProgramImage) (entries : List ℕ) (at n : ℕ) → 0 < n
     → ((k : ℕ) → k < n → ¬ InCode image entries (at + k)) → InCode image entries (at + n) → (at + n) % 4 ≡ 0
 loose_whole image entries at n some none c = by ((at + n) % 4) refl
   where
@@ -249,6 +328,31 @@ loose_whole image entries at n some none c = by ((at + n) % 4) refl
     by (suc r) e =
         let same : word_address (at + n) ≡ word_address (at + (n - 1)) = omega (arith, e, some) in
         absurd (none (n - 1) (omega (arith, some)) (subst (IsCode image entries) same c))
+
+-- a piece of code, and one of what is no code
+pub code_piece : (image : ProgramImage) (entries : List ℕ) (number at n : ℕ) (bytes : List ℕ) (own : List (List ℕ))
+    → at % 4 ≡ 0 → at + length bytes ≤ 2 ^ 32 → HasBytes image at bytes
+    → IsPiece (InCode image entries) at bytes (4 * n) → AreCodeLines (λ _. []) image entries at n own
+    → Told image entries number at (take (4 * n) bytes) own (Among at (4 * n)) (Among at (4 * n))
+    (Among at (4 * n) image.start)
+code_piece image entries number at n bytes own begins low has is are =
+    let within = is.within in
+    told_code image entries number at n (take (4 * n) bytes) own begins (omega (arith, within, low))
+    (length-take-le (4 * n) bytes within) (has_front image at (4 * n) bytes within has)
+    (λ k h. subst (IsCode image entries) (let e : word_address (at + 4 * k) ≡ at + 4 * k = omega (arith, begins) in e)
+    (is.even (4 * k) (omega (arith, h)))) are
+
+pub loose_piece : (image : ProgramImage) (entries : List ℕ) (number at n : ℕ) (bytes : List ℕ) (own : List (List ℕ))
+    → at + length bytes ≤ 2 ^ 32 → length bytes < 2 ^ 32 → AreBytes bytes
+    → IsPiece (λ a. ¬ InCode image entries a) at bytes n → AreLooseLines image entries at (take n bytes) own
+    → Told image entries number at (take n bytes) own (Among at n) (Among at n) (Among at n image.start)
+loose_piece image entries number at n bytes own low few small is are =
+    let within = is.within in
+    let size = length-take-le n bytes within in
+    subst (λ (k : ℕ). Told image entries number at (take n bytes) own (Among at k) (Among at k)
+    (Among at k image.start)) size
+    (told_loose image entries number at (take n bytes) own (omega (arith, size, within, low))
+    (omega (arith, size, within, few)) (bytes_taken n bytes small) (λ k h. is.even k (omega (arith, h, size))) are)
 
 -- the pieces of bytes from an address on, where no word of code began before
 pub told_pieces : (image : ProgramImage) (entries : List ℕ) (number at : ℕ) (bytes : List ℕ) (lines : List (List ℕ))
@@ -268,7 +372,10 @@ told_pieces image entries number at _ _ low few small has whole no_piece = recor
         (λ h. absurd h) (λ h. absurd (let x = h.0 in let y = h.1 in omega (arith, x, y)))
         (those_none image entries);
     branches = λ a h. absurd (let x = h.0 in let y = h.1 in omega (arith, x, y));
+    simple = tt;
     pieces = tt;
+    has = tt;
+    covers = λ a h. absurd (let x = h.0 in let y = h.1 in omega (arith, x, y));
     order = omega arith;
   };
   ends = refl;
@@ -282,10 +389,6 @@ told_pieces image entries number at bytes _ low few small has whole (code {own =
     let begins : at % 4 ≡ 0 =
     whole (omega (arith, some, within))
     (subst (InCode image entries) (let e : at + 0 ≡ at = omega arith in e) (is.even 0 some)) in
-    let size = length-take-le (4 * n) bytes within in
-    let each : (k : ℕ) → k < n → IsCode image entries (at + 4 * k) = λ k h.
-    subst (IsCode image entries) (let e : word_address (at + 4 * k) ≡ at + 4 * k = omega (arith, begins) in e)
-    (is.even (4 * k) (omega (arith, h))) in
     let later : ℕ = number + length (place_line at ∷ own) in
     let end : at + 4 * n + length (drop (4 * n) bytes) ≡ at + length bytes = omega (arith, left, within) in
     let others : ToldPart image entries later (at + 4 * n) (at + length bytes) (drop (4 * n) bytes) lines
@@ -297,15 +400,13 @@ told_pieces image entries number at bytes _ low few small has whole (code {own =
     (told_pieces image entries later (at + 4 * n) (drop (4 * n) bytes) lines (omega (arith, left, within, low))
     (omega (arith, left, few)) (bytes_dropped (4 * n) bytes small) (has_behind image at (4 * n) bytes within has)
     (λ h c. omega (arith, begins)) rest)) in
-    piece_before image entries number later at (at + length bytes) (4 * n) bytes own lines within some small low refl
-    (told_code image entries (number + 1) at n (take (4 * n) bytes) own begins (omega (arith, within, low)) size
-    (has_front image at (4 * n) bytes within has) each are)
-    others
+    piece_before image entries number later at (at + length bytes) (4 * n) bytes own lines within some small low has
+    refl
+    (code_piece image entries (number + 1) at n bytes own begins low has is are) others
 told_pieces image entries number at bytes _ low few small has whole (loose {own = own} {lines = lines} n is are rest) =
     let some = is.some in
     let within = is.within in
     let left = length-drop n bytes in
-    let size = length-take-le n bytes within in
     let later : ℕ = number + length (place_line at ∷ own) in
     let end : at + n + length (drop n bytes) ≡ at + length bytes = omega (arith, left, within) in
     let next_whole : 0 < length (drop n bytes) → InCode image entries (at + n) → (at + n) % 4 ≡ 0 = λ h c.
@@ -319,9 +420,5 @@ told_pieces image entries number at bytes _ low few small has whole (loose {own 
     (told_pieces image entries later (at + n) (drop n bytes) lines (omega (arith, left, within, low))
     (omega (arith, left, few)) (bytes_dropped n bytes small) (has_behind image at n bytes within has)
     next_whole rest)) in
-    piece_before image entries number later at (at + length bytes) n bytes own lines within some small low refl
-    (subst (λ (k : ℕ). Told image entries (number + 1) at (take n bytes) own (Among at k) (Among at k)
-    (Among at k image.start)) size
-    (told_loose image entries (number + 1) at (take n bytes) own (omega (arith, size, within, low))
-    (omega (arith, size, within, few)) (bytes_taken n bytes small) (λ k h. is.even k (omega (arith, h, size))) are))
-    others
+    piece_before image entries number later at (at + length bytes) n bytes own lines within some small low has refl
+    (loose_piece image entries (number + 1) at n bytes own low few small is are) others

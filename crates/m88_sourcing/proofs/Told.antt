@@ -34,8 +34,8 @@ use Rattle.m88_sourcing.specs.Source.AreLooseLines.{no_byte, stretch}
 use Rattle.m88_sourcing.proofs.Cutting.{code_stands}
 use Rattle.m88_sourcing.proofs.OneInstruction.{same_instruction}
 use Rattle.m88_sourcing.proofs.Labelled.{label_symbol, marks, near16_back, near_back, said_branch_bit_to, said_branch_cond_to, said_branch_to, said_label, use_of, wider, words_back}
-use Rattle.m88_sourcing.proofs.Listed.{Listed, ListedData, bytes_dropped, bytes_taken, listed_data}
-use Rattle.m88_sourcing.proofs.Places.{HasAt, IsBranchTo, has_behind_data, has_in_front}
+use Rattle.m88_sourcing.proofs.Listed.{Listed, ListedData, ListedPlain, bytes_dropped, bytes_taken, listed_data}
+use Rattle.m88_sourcing.proofs.Places.{AllAt, HasAt, IsBranchTo, IsPlain, IsSimple, branch_kind, all_behind_data, all_plain, has_behind_data, has_in_front}
 use Rattle.m88_sourcing.proofs.Names.{NameOnly, name_before, name_behind, named, once_both, only_behind, only_more}
 
 -- code and labels stand at multiples of 4
@@ -54,7 +54,7 @@ away_low pc words = by (cast_unsigned w32 words)
     by : (c : ℕ) → (pc + 4 * c) % 2 ^ 32 < 2 ^ 32
     by c = omega arith
 
-some_is : (x y : ℕ) → Some x ≡ Some y → x ≡ y
+pub some_is : (x y : ℕ) → Some x ≡ Some y → x ≡ y
 some_is x y e = cc
 
 target_is : (pc t : ℕ) (i : Instr) → branch_target pc i ≡ Some t → (words : ℤ) × (t ≡ words_away pc words)
@@ -154,6 +154,7 @@ pub record Told (image : ProgramImage) (entries : List ℕ) (number at : ℕ) (b
   pub listed : Listed (named image entries) number at bytes lines
   pub those : AreThose image entries (names_in listed.statements) Kind Start
   pub branches : HasBranches image entries Word at listed.statements
+  pub simple : AllAt (IsSimple image entries) at listed.statements
 
 pub told_as : (image : ProgramImage) (entries : List ℕ) (number at : ℕ) (bytes : List ℕ) (lines : List (List ℕ))
     (K L V W : ℕ → Type 0) (S T : Type 0)
@@ -164,6 +165,7 @@ told_as image entries number at bytes lines K L V W S T to from words on back t 
   listed = t.listed;
   those = those_as image entries _ K L S T to from on back t.those;
   branches = λ a w is. t.branches a (words a is w) is;
+  simple = t.simple;
 }
 
 -- one behind the other
@@ -192,6 +194,10 @@ told_both image entries number later at next xs ys ls ms K L V W S T later_is ne
             has_behind_data (IsBranchTo a i to) (named image entries) at next xs ss us next_is t.listed.datas
             (u.branches a v is i to stands e)
       ];
+      simple =
+          all_behind_data (IsSimple image entries) (named image entries) at next xs ss us next_is t.listed.datas
+          t.simple
+          u.simple;
     }
 
 -- nothing
@@ -201,6 +207,7 @@ told_none image entries number at = record {
   listed = record { statements = []; stated = tt; datas = no_data };
   those = those_none image entries;
   branches = λ a h. absurd h;
+  simple = tt;
 }
 
 -- a label by itself
@@ -240,6 +247,7 @@ told_label image entries number at _ low (so has) = record {
     start = λ h. absurd h;
   };
   branches = λ a h. absurd h;
+  simple = (inl tt, tt);
 }
 told_label image entries number at _ low (not_so none) = record {
   listed = record { statements = []; stated = tt; datas = no_data };
@@ -250,6 +258,7 @@ told_label image entries number at _ low (not_so none) = record {
     start = λ h. absurd h;
   };
   branches = λ a h. absurd h;
+  simple = tt;
 }
 
 -- the line that marks the start, where it is the address of a word of code
@@ -265,6 +274,7 @@ told_start image entries number at _ low is (so here) = record {
     start = λ same. inl (inl refl);
   };
   branches = λ a h. absurd h;
+  simple = (inl tt, tt);
 }
 told_start image entries number at _ low is (not_so none) = record {
   listed = record { statements = []; stated = tt; datas = no_data };
@@ -275,6 +285,7 @@ told_start image entries number at _ low is (not_so none) = record {
     start = λ same. absurd (none (sym same));
   };
   branches = λ a h. absurd h;
+  simple = tt;
 }
 
 -- statements that name nothing, where no label and no start stand
@@ -282,8 +293,9 @@ told_unnamed : (image : ProgramImage) (entries : List ℕ) (number at : ℕ) (by
     (K W : ℕ → Type 0) (S : Type 0) → ((a : ℕ) → K a → HasLabel image entries a → ⊥)
     → (S → IsCode image entries image.start → ⊥)
     → (l : ListedData (named image entries) number at bytes lines)
-    → HasBranches image entries W at l.listed.statements → Told image entries number at bytes lines K W S
-told_unnamed image entries number at bytes lines K W S none never l branches = record {
+    → HasBranches image entries W at l.listed.statements → AllAt (IsSimple image entries) at l.listed.statements
+    → Told image entries number at bytes lines K W S
+told_unnamed image entries number at bytes lines K W S none never l branches simple = record {
   listed = l.listed;
   those = record {
     only = subst (NameOnly _ _) (sym l.unnamed) tt;
@@ -292,6 +304,7 @@ told_unnamed image entries number at bytes lines K W S none never l branches = r
     start = λ s. inr (never s);
   };
   branches = branches;
+  simple = simple;
 }
 
 -- a word of code
@@ -337,13 +350,16 @@ listed_line Named number at given line x said gives unnamed = record {
 record ListedInstr (image : ProgramImage) (entries : List ℕ) (number at : ℕ) (i : Instr) : Type 0 where
   line : ListedData (named image entries) number at (to_be_bytes w32 (word_of i)) (code_text at i ∷ [])
   branch : (t : ℕ) → branch_target at i ≡ Some t → HasAt (IsBranchTo at i t) at line.listed.statements
+  simple : AllAt (IsSimple image entries) at line.listed.statements
 
 branch_line : (image : ProgramImage) (entries : List ℕ) (number at t : ℕ) (i j : Instr) (kind : Kind) (col : ℕ)
+    → IsCode image entries at → HoldsInstruction image at i
     → SpokenAs number (code_text at i) (unlabelled number (body.Code j (Some (use_of kind (label_of t) col))))
     → Gives (named image entries) at (unlabelled number (body.Code j (Some (use_of kind (label_of t) col))))
     (to_be_bytes w32 (word_of i))
-    → branch_target at i ≡ Some t → j ≡ counting (pos 0) i → ListedInstr image entries number at i
-branch_line image entries number at t i j kind col said gives to is = record {
+    → branch_target at i ≡ Some t → j ≡ counting (pos 0) i → kind ≡ branch_kind i
+    → ListedInstr image entries number at i
+branch_line image entries number at t i j kind col code holds said gives to is kind_is = record {
   line = listed_line (named image entries) number at _ _ _ said gives refl;
   branch = λ u e.
       let same : t ≡ u = some_is t u (sym to ∙ e) in
@@ -356,50 +372,73 @@ branch_line image entries number at t i j kind col said gives to is = record {
           alone = refl;
         },
       );
+  simple = (
+    inr (record {
+      i = i;
+      t = t;
+      code = code;
+      stands = holds;
+      leads = to;
+      waits = record {
+        name = use_of kind (label_of t) col;
+        body_is = ap (λ (k : Instr). body.Code k (Some (use_of kind (label_of t) col))) is;
+        symbol = refl;
+        alone = refl;
+      };
+      kind = kind_is;
+    }),
+    tt,
+  );
 }
 
 listed_instr : (image : ProgramImage) (entries : List ℕ) (number at : ℕ) (i : Instr) → at < 2 ^ 32 → at % 4 ≡ 0
-    → IsValid i → ((t : ℕ) → branch_target at i ≡ Some t → named image entries (label_of t) t)
+    → IsValid i → IsCode image entries at → HoldsInstruction image at i
+    → ((t : ℕ) → branch_target at i ≡ Some t → named image entries (label_of t) t)
     → ListedInstr image entries number at i
-listed_instr image entries number at (instr.Branch link delayed words) low stands valid names =
+listed_instr image entries number at (instr.Branch link delayed words) low stands valid code holds names =
     let t : ℕ = words_away at words in
     let s = said_branch_to number link delayed words (label_of t) (label_symbol t) in
-    branch_line image entries number at t _ _ _ s.col (spoken number _ _ s.said)
+    branch_line image entries number at t _ _ _ s.col code holds (spoken number _ _ s.said)
     (gives_branch (named image entries) number at t (instr.Branch link delayed words) _ Pc26 (label_of t) s.col stands
     (names t refl) (near_back words at low valid)
     (λ value is.
     ap (λ (v : ℕ). resolved (λ name. v) at (instr.Branch link delayed (pos 0)) (Some (use_of Pc26 (label_of t) s.col))) is
     ∙ ap (λ (w : ℤ). instr.Branch link delayed w) (words_back words at low valid)))
-    refl refl
-listed_instr image entries number at (instr.BranchBit set delayed bit s1 words) low stands valid names =
+    refl refl refl
+listed_instr image entries number at (instr.BranchBit set delayed bit s1 words) low stands valid code holds names =
     let t : ℕ = words_away at words in
     let s = said_branch_bit_to number set delayed bit s1 words (label_of t) valid.0 (label_symbol t) in
-    branch_line image entries number at t _ _ _ s.col (spoken number _ _ s.said)
+    branch_line image entries number at t _ _ _ s.col code holds (spoken number _ _ s.said)
     (gives_branch (named image entries) number at t (instr.BranchBit set delayed bit s1 words) _ Pc16 (label_of t) s.col
     stands (names t refl) (near16_back words at low valid.1)
     (λ value is.
     ap (λ (v : ℕ). resolved (λ name. v) at (instr.BranchBit set delayed bit s1 (pos 0))
     (Some (use_of Pc16 (label_of t) s.col))) is
     ∙ ap (λ (w : ℤ). instr.BranchBit set delayed bit s1 w) (words_back words at low (wider words valid.1))))
-    refl refl
-listed_instr image entries number at (instr.BranchCond delayed mask s1 words) low stands valid names =
+    refl refl refl
+listed_instr image entries number at (instr.BranchCond delayed mask s1 words) low stands valid code holds names =
     let t : ℕ = words_away at words in
     let s = said_branch_cond_to number delayed mask s1 words (label_of t) (condition_part mask valid.0) (label_symbol t) in
-    branch_line image entries number at t _ _ _ s.col (spoken number _ _ s.said)
+    branch_line image entries number at t _ _ _ s.col code holds (spoken number _ _ s.said)
     (gives_branch (named image entries) number at t (instr.BranchCond delayed mask s1 words) _ Pc16 (label_of t) s.col
     stands (names t refl) (near16_back words at low valid.1)
     (λ value is.
     ap (λ (v : ℕ). resolved (λ name. v) at (instr.BranchCond delayed mask s1 (pos 0))
     (Some (use_of Pc16 (label_of t) s.col))) is
     ∙ ap (λ (w : ℤ). instr.BranchCond delayed mask s1 w) (words_back words at low (wider words valid.1))))
-    refl refl
-listed_instr image entries number at i low stands valid names =
+    refl refl refl
+listed_instr image entries number at i low stands valid code holds names =
     record {
       line = listed_line (named image entries) number at _ _ _ (spoken number _ _ (said_instr number i valid))
           (gives_instr (named image entries) number at i stands) (said_unnamed number i);
       branch = λ t e. absurd cc;
+      simple = (inl (said_plain i), tt);
     }
   where
+    said_plain : (j : Instr) → IsPlain (said_body j)
+    said_plain (instr.Sfu unit rest) = tt
+    said_plain j = tt
+
     said_unnamed : (n : ℕ) (j : Instr) → names_of (unlabelled n (said_body j)) ≡ []
     said_unnamed n (instr.Sfu unit rest) = refl
     said_unnamed n j = refl
@@ -512,7 +551,7 @@ told_code image entries number at (suc n) bytes _ whole low size has are
     (λ k h. subst (IsCode image entries) (let e : at + 4 * (k + 1) ≡ at + 4 + 4 * k = omega arith in e)
     (are (k + 1) (omega (arith, h)))) rest in
     let instruction : ListedInstr image entries line3 at i =
-    listed_instr image entries line3 at i fits whole stands.0.1.2.0
+    listed_instr image entries line3 at i fits whole stands.0.1.2.0 here stands
     (λ t e. target_named image entries t (at, here, (i, stands, e))) in
     let own : Told image entries line3 at given (code_text at i ∷ []) (Behind at 4) (λ a. a ≡ at) (Behind at 4 image.start) =
     told_unnamed image entries line3 at given (code_text at i ∷ []) (Behind at 4) (λ a. a ≡ at) (Behind at 4 image.start)
@@ -527,7 +566,7 @@ told_code image entries number at (suc n) bytes _ whole low size has are
     let to : branch_target at i ≡ Some t = ap (branch_target at) again ∙ subst (λ (b : ℕ). branch_target b k ≡ Some t) same e in
     subst (λ (b : ℕ). HasAt (IsBranchTo b k t) at instruction.line.listed.statements) (sym same)
     (subst (λ (l : Instr). HasAt (IsBranchTo at l t) at instruction.line.listed.statements) again
-    (instruction.branch t to))) in
+    (instruction.branch t to))) instruction.simple in
     let last : Told image entries line3 at (given ++ drop 4 bytes) (code_text at i ∷ lines)
     (λ a. Behind at 4 a ⊎ Among (at + 4) (4 * n) a) (λ a. (a ≡ at) ⊎ Among (at + 4) (4 * n) a)
     (Behind at 4 image.start ⊎ Among (at + 4) (4 * n) image.start) =
@@ -632,6 +671,9 @@ told_loose image entries number at bytes _ low few small none
     (omega (arith, left, few)) (bytes_dropped n bytes small)
     (λ k h. subst (λ (a : ℕ). ¬ InCode image entries a) (let e : at + (n + k) ≡ at + n + k = omega arith in e)
     (none (n + k) (omega (arith, left, h, within)))) rest) in
+    let items : ListedPlain (named image entries) line2 at (take n bytes) own =
+    listed_data (named image entries) line2 at (take n bytes) own (omega (arith, size, within, few))
+    (bytes_taken n bytes small) datas in
     let first : Told image entries line2 at (take n bytes) own (Behind at n) (λ a. ⊥) (Among at n image.start) =
     told_unnamed image entries line2 at (take n bytes) own (Behind at n) (λ a. ⊥) (Among at n image.start)
     (λ a h has_one.
@@ -640,9 +682,8 @@ told_loose image entries number at bytes _ low few small none
     let there : at + (a - at) ≡ a = omega (arith, x) in
     is.plain (a - at) (omega (arith, x)) (omega (arith, x, y)) (subst (HasLabel image entries) (sym there) has_one))
     not_start
-    (listed_data (named image entries) line2 at (take n bytes) own (omega (arith, size, within, few))
-    (bytes_taken n bytes small) datas)
-    (λ a h. absurd h) in
+    items.own
+    (λ a h. absurd h) (all_plain image entries at items.own.listed.statements items.plain) in
     let last : Told image entries line2 at (take n bytes ++ drop n bytes) (own ++ lines)
     (λ a. Behind at n a ⊎ Among (at + n) (length bytes - n) a) (λ a. ⊥ ⊎ Among (at + n) (length bytes - n) a)
     (Among at n image.start ⊎ Among (at + n) (length bytes - n) image.start) =

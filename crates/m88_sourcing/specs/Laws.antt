@@ -4,6 +4,7 @@ use Rattle.m88_base.specs.Image.{IsImage, ProgramImage}
 use Rattle.m88_parse.specs.Language.Units.{IsUnit}
 use Rattle.m88_parse.specs.declared.unit.Unit.{Unit as Source}
 use Rattle.m88_disasm.specs.Read.{WritesImage}
+use Rattle.m88_sourcing.specs.Insertion.{KeepsItsBranches}
 use Rattle.m88_sourcing.specs.Source.{IsSource}
 use Rattle.m88_sourcing.specs.Targets.{NamesItsTargets}
 
@@ -18,3 +19,8 @@ abbrev pub EachNamesItsTargets : Type 0
 EachNamesItsTargets =
     (image : ProgramImage) (entries text : List ℕ) (unit : Source) → IsImage image → IsSource image entries text
     → IsUnit text unit → NamesItsTargets image entries unit
+
+-- with one more statement behind a word of code, every branch of it leads to where it led
+abbrev pub EachKeepsItsBranches : Type 0
+EachKeepsItsBranches =
+    (image : ProgramImage) (entries : List ℕ) → IsImage image → KeepsItsBranches image entries

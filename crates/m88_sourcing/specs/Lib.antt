@@ -5,6 +5,7 @@ pub mod Labels
 pub mod Data
 pub mod Source
 pub mod Targets
+pub mod Insertion
 pub mod Laws
 pub mod Request
 pub mod Inputs

@@ -12,7 +12,7 @@ ghost use Rattle.m88_sourcing.specs.Calls.{IsSourced};
 ghost use Rattle.m88_sourcing.specs.Inputs.{IsAcceptedIn, IsRefusedIn};
 ghost use Rattle.m88_sourcing.specs.Inside.Asked.{asked};
 ghost use Rattle.m88_sourcing.specs.Inside.Replies.{IsInputRead, SourcesAs};
-ghost use Rattle.m88_sourcing.specs.Laws.{EachBuildsBack, EachNamesItsTargets};
+ghost use Rattle.m88_sourcing.specs.Laws.{EachBuildsBack, EachKeepsItsBranches, EachNamesItsTargets};
 ghost use Rattle.m88_sourcing.specs.Request.{Asks, Request as Asked, words_of_call};
 
 use crate::input::read_input;
@@ -80,9 +80,11 @@ pub fn m88source<S: Source, K: Sink>(
         → Sources request bytes b → a ≡ b }
 
     // Of every source: `build` makes the image of it again, and every branch that is code names a label or a
-    // `.set` that stands for its target.
+    // `.set` that stands for its target. With one more statement of four bytes behind a word of code, where it is
+    // accepted, what is no code stays and every branch leads to where it led.
     ensures builds { EachBuildsBack }
     ensures names { EachNamesItsTargets }
+    ensures inserts { EachKeepsItsBranches }
 {
     let Some(request) = asked_for(words) else {
         return Status::Usage;

@@ -5,6 +5,7 @@ use Rattle.m88_base.specs.Outside.{AppendsPart}
 use Rattle.m88_base.specs.Refusal.{refusal_line}
 use Rattle.m88_sourcing.specs.Inputs.{IsAcceptedIn}
 use Rattle.m88_sourcing.specs.Inside.Asked.{asked}
+use Rattle.m88_sourcing.proofs.Lengthening.{keeps_branches}
 use Rattle.m88_sourcing.proofs.Rebuilt.{source_again}
 use Rattle.m88_sourcing.proofs.Targeting.{names_targets}
 use Rattle.m88_sourcing.proofs.Verdicts.{accepted_in, answer_of, line_of_reply, not_both, one_answer, one_verdict_in, refusal_some, reply_given}
@@ -123,3 +124,12 @@ returns-in-Err-clause-names g c = names_targets
 
 pub returns-in-Ok-clause-names : goal.returns-in-Ok-clause-names
 returns-in-Ok-clause-names g c = names_targets
+
+pub returns-in_default-clause-inserts : goal.returns-in_default-clause-inserts
+returns-in_default-clause-inserts g c = keeps_branches
+
+pub returns-in-Err-clause-inserts : goal.returns-in-Err-clause-inserts
+returns-in-Err-clause-inserts g c = keeps_branches
+
+pub returns-in-Ok-clause-inserts : goal.returns-in-Ok-clause-inserts
+returns-in-Ok-clause-inserts g c = keeps_branches

@@ -1,0 +1,75 @@
+-- What one more statement behind a word of code changes in the source of an image.
+use Rattle.std.specs.Prelude.{◌≡◌, ◌≢◌, ℕ, ℤ, ◌+◌, ◌≤◌, List, [], ◌∷◌, Option, None, Some, IsSome, ◌==◌, if◌then◌else◌}
+use Rattle.m88_base.specs.Image.{ProgramImage, byte_at}
+use Rattle.m88_base.specs.Lines.{carriage_return, line_feed}
+use Rattle.m88_isa.specs.ImageProgram.{HasWordOf}
+use Rattle.m88_isa.specs.declared.instr.Instr.{Instr}
+use Rattle.m88_parse.specs.Language.Pieces.{Piece}
+use Rattle.m88_parse.specs.Language.Statements.{IsStatement}
+use Rattle.m88_parse.specs.Language.Tokens.{LineTokens}
+use Rattle.m88_parse.specs.Language.Units.{IsUnit}
+use Rattle.m88_parse.specs.declared.unit.Statement.{Statement}
+use Rattle.m88_parse.specs.declared.unit.Unit.{Unit as Source}
+use Rattle.m88_asm.specs.Accepted.{IsAcceptedUnit}
+use Rattle.m88_asm.specs.Counters.{length_at}
+use Rattle.m88_asm.specs.Images.{unit_byte, unit_start}
+use Rattle.m88_sourcing.specs.Code.{InCode, IsCode, HoldsInstruction}
+use Rattle.m88_sourcing.specs.Flow.{branch_target}
+use Rattle.m88_sourcing.specs.Source.{IsSourceWith}
+use Rattle.m88_sourcing.specs.Targets.{counting}
+
+-- an address behind the word of code at w, with nothing but code from there to it: behind it in its piece
+abbrev pub IsCarriedBy : ProgramImage → List ℕ → ℕ → ℕ → Type 0
+IsCarriedBy image entries w a = (w + 4 ≤ a) × ((b : ℕ) → w ≤ b → b ≤ a → InCode image entries b)
+
+-- where an address is found again: four bytes further on behind w in its piece, else where it was
+pub data IsFoundAt (image : ProgramImage) (entries : List ℕ) (w : ℕ) : ℕ → ℕ → Type 0 where
+  carried : {a : ℕ} → IsCarriedBy image entries w a → IsFoundAt image entries w a (a + 4)
+  stays : {a : ℕ} → ¬ IsCarriedBy image entries w a → IsFoundAt image entries w a a
+
+-- both have no target, or the second's is where the first's is found again
+abbrev pub LeadsAgain : ProgramImage → List ℕ → ℕ → Option ℕ → Option ℕ → Type 0
+LeadsAgain image entries w None t = t ≡ None
+LeadsAgain image entries w (Some s) None = ⊥
+LeadsAgain image entries w (Some s) (Some t) = IsFoundAt image entries w s t
+
+-- an instruction that is code is found again, and led to where it was led to
+pub record IsFoundAgain (image : ProgramImage) (entries : List ℕ) (w : ℕ) (byte : ℕ → Option ℕ) (a : ℕ) (i : Instr)
+    : Type 0 where
+  pub at : ℕ
+  pub words : ℤ
+  pub found : IsFoundAt image entries w a at
+  pub stands : HasWordOf byte at (counting words i)
+  pub leads : LeadsAgain image entries w (branch_target a i) (branch_target at (counting words i))
+
+-- one line: no line feed is in it, and no carriage return at its end
+abbrev pub IsLine : List ℕ → Type 0
+IsLine [] = Unit {0}
+IsLine (b ∷ bs) = (b ≢ line_feed) × (b ≡ carriage_return → bs ≢ []) × IsLine bs
+
+-- the source with one more statement, of four bytes wherever it stands and without a label, in the line behind that of
+-- the word of code at w
+pub record IsInserted (image : ProgramImage) (entries : List ℕ) (w : ℕ) (longer : List ℕ) : Type 0 where
+  pub line : List ℕ
+  pub is_line : IsLine line
+  pub number : ℕ
+  pub tokens : List Piece
+  pub statement : Statement
+  pub are_tokens : LineTokens line tokens
+  pub said : IsStatement number tokens statement
+  pub unlabelled : statement.label ≡ None
+  pub four : (place : ℕ) → length_at place statement.body ≡ 4
+  pub source : IsSourceWith (λ a. if a == w then line ∷ [] else []) image entries longer
+
+-- every byte that is no code is where it was, and every instruction that is code is found again, the first one too
+pub record MovesCodeAlone (image : ProgramImage) (entries : List ℕ) (w : ℕ) (unit : Source) : Type 0 where
+  pub stays : (a : ℕ) → IsSome (byte_at image a) → ¬ InCode image entries a → unit_byte unit a ≡ byte_at image a
+  pub found : (a : ℕ) (i : Instr) → IsCode image entries a → HoldsInstruction image a i
+      → IsFoundAgain image entries w (unit_byte unit) a i
+  pub start : IsCode image entries image.start → IsFoundAt image entries w image.start (unit_start unit)
+
+-- so it is wherever such a longer source is accepted
+abbrev pub KeepsItsBranches : ProgramImage → List ℕ → Type 0
+KeepsItsBranches image entries =
+    (w : ℕ) (longer : List ℕ) (unit : Source) → IsCode image entries w → IsInserted image entries w longer
+    → IsUnit longer unit → IsAcceptedUnit unit → MovesCodeAlone image entries w unit
