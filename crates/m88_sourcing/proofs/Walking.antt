@@ -71,6 +71,63 @@ names_more image old code new at i holds names more notes =
       far = λ a. named_more image old new at a i _ _ _ holds now (names.far a) (notes.far a);
     }
 
+-- the targets of the same words
+pub names_same : (image : ProgramImage) (old : Outline) (code : Words)
+    → ((a : ℕ) → IsTrue (has_word code a) ↔ IsTrue (has_word old.code a)) → NamesTargets image old
+    → NamesTargets image (record { code = code; labels = old.labels; far = old.far })
+names_same image old code same names =
+    let named : (t : ℕ) → IsNamed image old t ↔ IsNamed image (record { code = code; labels = old.labels; far = old.far }) t =
+    λ t. (λ n. (n.0, (same n.0).1 n.1, n.2), λ n. (n.0, (same n.0).0 n.1, n.2)) in
+    record {
+      labels = λ a. (
+        λ h. let n = (names.labels a).0 h in ((named a).0 n.0, n.1),
+        λ n. (names.labels a).1 ((named a).1 n.0, n.1),
+      );
+      far = λ a. (
+        λ h. let n = (names.far a).0 h in ((named a).0 n.0, n.1),
+        λ n. (names.far a).1 ((named a).1 n.0, n.1),
+      );
+    }
+
+-- a set with a member once more
+pub once_more : (old new : Words) (at : ℕ) → IsTrue (has_word old at)
+    → ((a : ℕ) → IsTrue (has_word new a) ↔ (IsTrue (has_word old a) ⊎ (a ≡ at)))
+    → (a : ℕ) → IsTrue (has_word new a) ↔ IsTrue (has_word old a)
+once_more old new at there more a = (
+  λ h. elim ((more a).0 h) [
+    | inl was ↦ was
+    | inr same ↦ subst (λ (n : ℕ). IsTrue (has_word old n)) (sym same) there
+  ],
+  λ h. (more a).1 (inl h),
+)
+
+-- nothing is left at a word that was found before
+pub again_closed : (image : ProgramImage) (w : Walk) (o : Outline) (at : ℕ) (Left : ℕ → Type 0)
+    → IsTrue (has_word w.outline.code at) → ((a : ℕ) → IsTrue (has_word o.code a) ↔ IsTrue (has_word w.outline.code a))
+    → NamesTargets image o → IsClosed image w (λ b. b ≡ at)
+    → IsClosed image (record { outline = o; heads = w.heads; slots = w.slots }) Left
+again_closed image w o at Left here same names closed = record {
+  leads = λ a b there led.
+      elim (closed.leads a b ((same a).0 there) led) [
+        | inl found ↦ inl ((same b).1 found)
+        | inr further ↦ elim further [
+          | inl head ↦ inr (inl head)
+          | inr is ↦ inl ((same b).1 (subst (λ (n : ℕ). IsTrue (has_word w.outline.code n)) (sym is) here))
+        ]
+      ];
+  slots = λ a b there. closed.slots a b ((same a).0 there);
+  names = names;
+}
+
+pub again_sound : (image : ProgramImage) (seeds : List ℕ) (w : Walk) (o : Outline)
+    → ((a : ℕ) → IsTrue (has_word o.code a) ↔ IsTrue (has_word w.outline.code a)) → IsSound image seeds w
+    → IsSound image seeds (record { outline = o; heads = w.heads; slots = w.slots })
+again_sound image seeds w o same sound = record {
+  code = λ a there. sound.code a ((same a).0 there);
+  heads = sound.heads;
+  slots = sound.slots;
+}
+
 -- what is left, said otherwise
 pub left_as : (image : ProgramImage) (w : Walk) (Left Other : ℕ → Type 0) → ((b : ℕ) → Left b → Other b) → IsClosed image w Left
     → IsClosed image w Other

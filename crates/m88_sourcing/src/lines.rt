@@ -33,12 +33,12 @@ fn push_label(text: &mut Vec<u8>, at: u32) -> Result<(), AllocError>
 }
 
 /// Appends the line of the label of an address, where it has one.
-pub(crate) fn push_label_at(text: &mut Vec<u8>, labels: &Words, at: u32) -> Result<(), AllocError>
+pub(crate) fn push_label_at(text: &mut Vec<u8>, has_label: bool, at: u32) -> Result<(), AllocError>
     ensures { OnOk result (AreAppended
-        (LineWhere (IsTrue (has_word labels.now at)) (label_line (label_of at)))
+        (LineWhere (IsTrue has_label) (label_line (label_of at)))
         text.old.items text.new.items) }
 {
-    if labels.contains(at) {
+    if has_label {
         push_label(text, at)?;
     }
     Ok(())

@@ -77,7 +77,7 @@ fn push_stretch(
     ensures within { IfOk result (λ n. n ≤ length bytes.now) }
 {
     let len = stretch_len(&outline.labels, at, bytes);
-    push_label_at(text, &outline.labels, at)?;
+    push_label_at(text, outline.labels.contains(at), at)?;
     push_data(text, at, &bytes[..len])?;
     Ok(len)
 }

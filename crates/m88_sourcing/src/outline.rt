@@ -77,8 +77,7 @@ pub(crate) fn note_word(
     ensures code { OnOk result ((a : ℕ) → IsTrue (has_word outline.new.code a)
         ↔ (IsTrue (has_word outline.old.code a) ⊎ (a ≡ at))) }
     ensures named { OnOk result (NamesTargets image.now outline.new) }
-    ensures same { IfOk result (λ is_new. is_new ≡ false
-        → (outline.new ≡ outline.old) × IsTrue (has_word outline.old.code at)) }
+    ensures again { IfOk result (λ is_new. is_new ≡ false → IsTrue (has_word outline.old.code at)) }
 {
     if !outline.code.insert(at)? {
         return Ok(false);

@@ -1,11 +1,12 @@
 //! The lines of the pieces of an image.
-ghost use Rattle.std.specs.Prelude.{◌≡◌, ◌⊎◌, ◌+◌, ◌*◌, ◌%◌, ◌<◌, ◌≤◌, ◌^◌, ℕ, suc, List, [], None, IfOk, IsTrue, OnOk, drop, length};
+ghost use Rattle.std.specs.Prelude.{◌≡◌, ◌⊎◌, ◌↔◌, ◌+◌, ◌*◌, ◌%◌, ◌<◌, ◌≤◌, ◌^◌, ℕ, suc, List, [], None, IfOk, IsTrue, OnOk, drop, length};
 ghost use Rattle.m88_base.specs.Found.{IsPart};
 ghost use Rattle.m88_base.specs.Image.{IsImage, byte_at, parts};
 ghost use Rattle.m88_sourcing.specs.Code.{HasInstruction};
 ghost use Rattle.m88_sourcing.specs.Inside.Appended.{FrontAppended, AreAppended};
 ghost use Rattle.m88_sourcing.specs.Inside.Members.{AsAt, OutlinesImage, IsOutlined, among_words};
-ghost use Rattle.m88_sourcing.specs.Inside.Words.{has_word};
+ghost use Rattle.m88_sourcing.specs.Inside.Words.{IsLooking, has_word};
+ghost use Rattle.m88_sourcing.specs.Labels.{HasLabel};
 ghost use Rattle.m88_sourcing.specs.Source.{AreCodeLines, AreSourceLines, ArePieceLines, IsPiece};
 
 use crate::lines::{push_label_at, push_start_at};
@@ -13,7 +14,7 @@ use crate::loose::push_loose;
 use crate::naming::push_instruction;
 use crate::outline::Outline;
 use crate::standing::standing;
-use crate::words::Words;
+use crate::words::{Looking, Words};
 use m88_base::Image;
 use m88_disasm::push_place;
 use std::alloc::AllocError;
@@ -25,6 +26,16 @@ fn is_in_code(code: &Words, at: u32) -> bool
     code.contains(at / 4 * 4)
 }
 
+/// The same, of addresses in turn.
+fn is_next_in_code(code: &mut Looking, at: u32) -> bool
+    requires { IsLooking code.old }
+    ensures value { result ≡ among_words (has_word code.old.words.now) at }
+    ensures looking { IsLooking code.new }
+    ensures same { code.new.words ≡ code.old.words }
+{
+    code.contains(at / 4 * 4)
+}
+
 /// How many of the bytes from an address on are code as the first is, or are none as the first isn't.
 fn piece_len(code: &Words, at: u32, bytes: &[u8]) -> usize
     requires some { 0 < length bytes.now }
@@ -32,9 +43,10 @@ fn piece_len(code: &Words, at: u32, bytes: &[u8]) -> usize
     ensures piece { IsPiece (AsAt (has_word code.now) at) at bytes.now result }
     ensures whole { (result ≡ length bytes.now) ⊎ ((at + result) % 4 ≡ 0) }
 {
-    let is_code = is_in_code(code, at);
+    let mut looking = Looking::new(code);
+    let is_code = is_next_in_code(&mut looking, at);
     let mut len = 4 - at as usize % 4;
-    while len < bytes.len() && is_in_code(code, at + len as u32) == is_code {
+    while len < bytes.len() && is_next_in_code(&mut looking, at + len as u32) == is_code {
         len += 4;
     }
     len.min(bytes.len())
@@ -44,15 +56,19 @@ fn piece_len(code: &Words, at: u32, bytes: &[u8]) -> usize
 fn push_code_word(
     text: &mut Vec<u8>,
     image: &Image,
-    outline: &Outline,
+    labels: &mut Looking,
     at: u32,
 ) -> Result<(), AllocError>
-    requires { HasInstruction image.now at }
-    ensures { OnOk result ((entries : List ℕ) (n : ℕ) → OutlinesImage image.now entries outline.now
+    requires stands { HasInstruction image.now at }
+    requires looking { IsLooking labels.old }
+    ensures lines { OnOk result ((entries : List ℕ) (n : ℕ)
+        → ((a : ℕ) → IsTrue (has_word labels.old.words.now a) ↔ HasLabel image.now entries a)
         → FrontAppended (AreCodeLines (λ _. []) image.now entries at (suc n))
         (AreCodeLines (λ _. []) image.now entries (at + 4) n) text.old.items text.new.items) }
+    ensures looking { IsLooking labels.new }
+    ensures same { labels.new.words ≡ labels.old.words }
 {
-    push_label_at(text, &outline.labels, at)?;
+    push_label_at(text, labels.contains(at), at)?;
     push_start_at(text, image.start(), at)?;
     match standing(image, at) {
         Some(instr) => push_instruction(text, at, &instr),
@@ -74,8 +90,9 @@ fn push_code(
         → AreAppended (AreCodeLines (λ _. []) image.now entries at words)
         text.old.items text.new.items) }
 {
+    let mut labels = Looking::new(&outline.labels);
     for index in 0..words {
-        push_code_word(text, image, outline, at + (4 * index) as u32)?;
+        push_code_word(text, image, &mut labels, at + (4 * index) as u32)?;
     }
     Ok(())
 }

@@ -1,6 +1,6 @@
 //! Sets of addresses.
 ghost use Rattle.std.specs.Prelude.{◌≡◌, ◌⊎◌, ◌↔◌, ℕ, false, not, IfOk, IsTrue, OnOk};
-ghost use Rattle.m88_sourcing.specs.Inside.Words.{bits_at, has_word, is_set, row_of};
+ghost use Rattle.m88_sourcing.specs.Inside.Words.{IsLooking, bits_at, has_word, is_set, row_of};
 
 use indexmap::IndexMap;
 use std::alloc::{AllocError, Global};
@@ -45,15 +45,18 @@ impl Words {
     /// Puts an address into the set. Whether it wasn't there.
     pub fn insert(&mut self, at: u32) -> Result<bool, AllocError>
         ensures new { IfOk result (λ is_new. is_new ≡ not (has_word self.old at)) }
-        ensures same { IfOk result (λ is_new. is_new ≡ false → self.new ≡ self.old) }
         ensures has { OnOk result ((a : ℕ) → IsTrue (has_word self.new a)
             ↔ (IsTrue (has_word self.old a) ⊎ (a ≡ at))) }
     {
-        let bits = self.bits_at(at);
-        if is_set(bits, at) {
-            return Ok(false);
+        if let Some(bits) = self.rows.get_mut(&row_of(at)) {
+            let old = *bits;
+            if is_set(old, at) {
+                return Ok(false);
+            }
+            *bits = old | 1 << (at / 4 % 32);
+            return Ok(true);
         }
-        self.rows.insert(row_of(at), bits | 1 << (at / 4 % 32))?;
+        self.rows.insert(row_of(at), 1 << (at / 4 % 32))?;
         Ok(true)
     }
 
@@ -65,5 +68,52 @@ impl Words {
             Some(bits) => *bits,
             None => 0,
         }
+    }
+}
+
+/// A set of addresses that is looked at in turn: the row that was looked at last is kept.
+#[derive(Drop)]
+pub(crate) struct Looking<'a> {
+    words: &'a Words,
+    row: u32,
+    bits: u32,
+}
+
+impl<'a> Looking<'a> {
+    pub fn new(words: &'a Words) -> Looking<'a>
+        ensures looking { IsLooking result }
+        ensures words { result.words.now ≡ words.now }
+    {
+        let bits = words.bits_at(0);
+        Looking {
+            words,
+            row: 0,
+            bits,
+        }
+    }
+
+    /// Whether an address is in the set.
+    pub fn contains(&mut self, at: u32) -> bool
+        requires { IsLooking self.old }
+        ensures value { result ≡ has_word self.old.words.now at }
+        ensures looking { IsLooking self.new }
+        ensures same { self.new.words ≡ self.old.words }
+    {
+        is_set(self.bits_at(at), at)
+    }
+
+    /// The bits of the row of an address.
+    fn bits_at(&mut self, at: u32) -> u32
+        requires { IsLooking self.old }
+        ensures value { result ≡ bits_at self.old.words.now at }
+        ensures looking { IsLooking self.new }
+        ensures same { self.new.words ≡ self.old.words }
+    {
+        let row = row_of(at);
+        if row != self.row {
+            self.row = row;
+            self.bits = self.words.bits_at(at);
+        }
+        self.bits
     }
 }

@@ -1,7 +1,8 @@
 -- Sets of addresses, by rows of bits.
-use Rattle.std.specs.Prelude.{ℕ, Bool, ◌+◌, ◌*◌, ◌/◌, ◌%◌, ◌==◌, nat_eq, unwrap_or}
+use Rattle.std.specs.Prelude.{◌≡◌, ℕ, Bool, ◌+◌, ◌*◌, ◌/◌, ◌%◌, ◌==◌, nat_eq, unwrap_or}
 use Rattle.std.specs.Int.{bit_at}
 use Rattle.indexmap.specs.IndexMap.{get}
+use Rattle.m88_sourcing.specs.declared.words.Looking.{Looking}
 use Rattle.m88_sourcing.specs.declared.words.Words.{Words}
 
 -- the number of the row of an address: 32 addresses that are 4 bytes apart share one
@@ -19,3 +20,7 @@ is_set bits a = bit_at bits (a / 4 % 32) == 1
 -- an address is in a set
 abbrev pub has_word : Words → ℕ → Bool
 has_word words a = is_set (bits_at words a) a
+
+-- the bits that are kept are those of the row that is named
+pub record IsLooking (l : Looking) : Type 0 where
+  pub bits : (a : ℕ) → row_of a ≡ l.row → l.bits ≡ bits_at l.words.now a

@@ -4,13 +4,15 @@ use Rattle.std.proofs.lemmas.Result.{on_ok_weaker}
 use Rattle.m88_sourcing.proofs.Cutting.{lines_where, word_front}
 use Rattle.m88_sourcing.proofs.pieces.push_code_word.Goals as goal
 
-pub returns : goal.returns
-returns c =
+pub returns-clause-lines : goal.returns-clause-lines
+returns-clause-lines c =
     on_ok_weaker c.push_instruction.result
     (λ text entries n is.
     word_front c.args.image.now entries c.args.at n c.in-Some.instr c.args.text.now.items c.push_label_at.new.text.items
     c.push_start_at.new.text.items c.push_instruction.new.text.items c.in-Some.ensures.some
-    (lines_where _ _ _ _ _ (is.labels c.args.at) c.in_ok-push_label_at.ensures)
+    (lines_where _ _ _ _ _
+    (λ h. (is c.args.at).0 (sym c.contains.ensures.value ∙ h), λ h. c.contains.ensures.value ∙ (is c.args.at).1 h)
+    c.in_ok-push_label_at.ensures)
     (lines_where _ _ _ _ _ (λ e. e ∙ c.start.ensures, λ e. e ∙ sym c.start.ensures) c.in_ok-push_start_at.ensures)
     text)
     c.push_instruction.ensures

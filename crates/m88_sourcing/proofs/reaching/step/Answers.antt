@@ -1,8 +1,6 @@
 -- Nothing is left where nothing new was found, else what the instruction leads to.
-use Rattle.std.proofs.Common.{◌≡◌, [], append-nil, inl, subst, sym}
-use Rattle.m88_sourcing.specs.Inside.Walks.{IsClosed}
-use Rattle.m88_sourcing.specs.declared.outline.Outline.{Outline}
-use Rattle.m88_sourcing.proofs.Walking.{more_closed, more_sound, none_left}
+use Rattle.std.proofs.Common.{[], append-nil, inl, sym}
+use Rattle.m88_sourcing.proofs.Walking.{again_closed, again_sound, more_closed, more_sound, none_left, once_more}
 use Rattle.m88_sourcing.proofs.reaching.step.Goals as goal
 
 pub returns-in_default-clause-closed : goal.returns-in_default-clause-closed
@@ -11,12 +9,18 @@ returns-in_default-clause-closed c =
 
 pub returns-then-not-branch-clause-closed : goal.returns-then-not-branch-clause-closed
 returns-then-not-branch-clause-closed c =
-    let same = c.in_ok-note_word.ensures.same c.if-not-branch.true in
-    none_left c.args.image.now (record { outline = c.note_word.new.outline; heads = c.args.walk.now.heads; slots = c.args.walk.now.slots })
-    c.args.at _ (λ h. (c.in_ok-note_word.ensures.code c.args.at).1 (inl same.1))
-    (subst
-    (λ (o : Outline). IsClosed c.args.image.now (record { outline = o; heads = c.args.walk.now.heads; slots = c.args.walk.now.slots }) (λ b. b ≡ c.args.at))
-    (sym same.0) c.requires)
+    let there = c.in_ok-note_word.ensures.again c.if-not-branch.true in
+    again_closed c.args.image.now c.args.walk.now c.note_word.new.outline c.args.at _ there
+    (once_more c.args.walk.now.outline.code c.note_word.new.outline.code c.args.at there c.in_ok-note_word.ensures.code)
+    c.in_ok-note_word.ensures.named c.requires
+
+pub returns-then-not-branch-clause-sound : goal.returns-then-not-branch-clause-sound
+returns-then-not-branch-clause-sound c = λ seeds sound reached. (
+  again_sound c.args.image.now seeds c.args.walk.now c.note_word.new.outline
+      (once_more c.args.walk.now.outline.code c.note_word.new.outline.code c.args.at
+      (c.in_ok-note_word.ensures.again c.if-not-branch.true) c.in_ok-note_word.ensures.code) sound,
+  tt,
+)
 
 pub returns-then-not-branch-clause-keeps : goal.returns-then-not-branch-clause-keeps
 returns-then-not-branch-clause-keeps c = record {
