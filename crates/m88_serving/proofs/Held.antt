@@ -17,7 +17,7 @@ use Rattle.m88_report.specs.Report.{word_line}
 use Rattle.m88_serving.proofs.Marked.{else_is, then_is}
 use Rattle.m88_serving.specs.Served.{access_line, transactions_text, awaited_text, registers_below, served_text, slots_text, transaction_line}
 use Rattle.m88_serving.specs.Serving.{serving_with}
-use Rattle.m88_serving.specs.Inside.Steps.{Held, held_after, held_behind, held_behind_all, handled, lines_of_triples}
+use Rattle.m88_serving.specs.Inside.Steps.{Held, held_after, held_behind, held_behind_all, handled, lines_of_triples, text_behind}
 
 -- what isn't valid changes nothing, and has no line
 pub unserved : (t : Triple) (h : Held) → is_valid_triple t ≡ false → h ≡ held_behind t h
@@ -134,35 +134,31 @@ slots_kept s = λ i.
     ((sfip_kept 2 (after_triple 1 (after_triple 0 s)) ∙ sfip_kept 1 (after_triple 0 s) ∙ sfip_kept 0 s) i)
 
 -- the text of what was made
-pub text_made : (r : Record) (bus : ℕ → ℕ) (new : Held) (values : List ℕ) (words : List (ℕ × ℕ)) (text : List ℕ)
-    → new ≡ held_behind_all r.triples (handled (serving_with r bus)) → values ≡ new.numbers → words ≡ changed_words bus new.bus
-    → text ≡ ((lines_of_triples r.triples (handled (serving_with r bus)) ++ registers_below (registers_in r.ssbr) values 32)
-    ++ flat_map word_line words) ++ slots_text new.ssbr r.snip r.sfip
-    → text ≡ served_text (serving_with r bus)
+text_made : (r : Record) (bus : ℕ → ℕ) (new : Held) → new ≡ held_behind_all r.triples (handled (serving_with r bus))
+    → lines_of_triples r.triples (handled (serving_with r bus)) ++ text_behind r bus new ≡ served_text (serving_with r bus)
 unfolding served_text
-text_made r bus new values words text made shown changed is =
+text_made r bus new made =
     let s : Serving = serving_with r bus in
     let same : new ≡ handled (after_service s) = made ∙ sym (all_held s) in
-    let lines : List ℕ = lines_of_triples r.triples (handled s) in
-    is
-    ∙ three_lines lines (registers_below (registers_in r.ssbr) values 32) (flat_map word_line words) (slots_text new.ssbr r.snip r.sfip)
-    ∙ (λ i. lines ++ (registers_below (registers_in r.ssbr) (shown i) 32 ++ flat_map word_line (changed i) ++ slots_text new.ssbr r.snip r.sfip))
-    ∙ (λ i. lines ++ (registers_below (registers_in r.ssbr) (same i).numbers 32 ++ flat_map word_line (changed_words bus (same i).bus)
-    ++ slots_text (same i).ssbr r.snip r.sfip))
+    (λ i. lines_of_triples r.triples (handled s) ++ text_behind r bus (same i))
     ∙ (λ i. sym (all_lines s) i ++ (registers_below (registers_in r.ssbr) (after_service s).numbers 32
     ++ flat_map word_line (changed_words bus (after_service s).bus) ++ sym (slots_kept s) i))
 
 -- the same by the steps of the text
-pub text_by_steps : (r : Record) (bus : ℕ → ℕ) (old new : Held) (values : List ℕ) (words : List (ℕ × ℕ)) (text0 text1 text2 text3 text : List ℕ)
-    → old ≡ handled (serving_with r bus) → new ≡ held_behind_all r.triples old → values ≡ new.numbers → words ≡ changed_words bus new.bus
-    → text0 ≡ [] → text1 ≡ text0 ++ lines_of_triples r.triples old → text2 ≡ text1 ++ registers_below (registers_in r.ssbr) values 32
-    → text3 ≡ text2 ++ flat_map word_line words → text ≡ text3 ++ slots_text new.ssbr r.snip r.sfip
+pub text_by_steps : (r : Record) (bus : ℕ → ℕ) (old new : Held) (text0 text1 text : List ℕ) → old ≡ handled (serving_with r bus)
+    → new ≡ held_behind_all r.triples old → text0 ≡ [] → text1 ≡ text0 ++ lines_of_triples r.triples old → text ≡ text1 ++ text_behind r bus new
     → text ≡ served_text (serving_with r bus)
-text_by_steps r bus old new values words text0 text1 text2 text3 text found made shown changed e0 e1 e2 e3 e4 =
-    text_made r bus new values words text (made ∙ ap (held_behind_all r.triples) found) shown changed
-    (e4 ∙ ap (λ t. t ++ slots_text new.ssbr r.snip r.sfip) (e3 ∙ ap (λ t. t ++ flat_map word_line words)
-    (e2 ∙ ap (λ t. t ++ registers_below (registers_in r.ssbr) values 32)
-    (e1 ∙ (λ i. e0 i ++ lines_of_triples r.triples (found i))))))
+text_by_steps r bus old new text0 text1 text found made e0 e1 e2 =
+    e2 ∙ ap (λ t. t ++ text_behind r bus new) (e1 ∙ (λ i. e0 i ++ lines_of_triples r.triples (found i)))
+    ∙ text_made r bus new (made ∙ ap (held_behind_all r.triples) found)
+
+pub behind_by_steps : (r : Record) (bus : ℕ → ℕ) (held : Held) (values : List ℕ) (words : List (ℕ × ℕ)) (old text1 text2 text : List ℕ)
+    → values ≡ held.numbers → words ≡ changed_words bus held.bus → text1 ≡ old ++ registers_below (registers_in r.ssbr) values 32
+    → text2 ≡ text1 ++ flat_map word_line words → text ≡ text2 ++ slots_text held.ssbr r.snip r.sfip → text ≡ old ++ text_behind r bus held
+behind_by_steps r bus held values words old text1 text2 text shown changed e1 e2 e3 =
+    e3 ∙ ap (λ t. t ++ slots_text held.ssbr r.snip r.sfip) (e2 ∙ ap (λ t. t ++ flat_map word_line words) e1)
+    ∙ three_lines old (registers_below (registers_in r.ssbr) values 32) (flat_map word_line words) (slots_text held.ssbr r.snip r.sfip)
+    ∙ (λ i. old ++ (registers_below (registers_in r.ssbr) (shown i) 32 ++ flat_map word_line (changed i) ++ slots_text held.ssbr r.snip r.sfip))
 
 -- the registers below one number more
 pub registers_next : (set : ℕ → Bool) (numbers : List ℕ) (r : ℕ)

@@ -3,14 +3,14 @@ ghost use Rattle.std.specs.Prelude.{◌≡◌};
 ghost use Rattle.m88_serving.specs.Faults.{serve_reason};
 
 /// The line of an input, from 1, for which it is refused, and why.
-#[derive(Clone, Copy, PartialEq, Eq, Debug)]
+#[derive(Clone, Copy)]
 pub struct ServeFault {
     pub line: u64,
     pub kind: ServeKind,
 }
 
 /// The reasons for which an input is refused. The first of them that occurs anywhere counts.
-#[derive(Clone, Copy, PartialEq, Eq, Debug)]
+#[derive(Clone, Copy)]
 pub enum ServeKind {
     /// The line isn't of the form, or isn't there.
     Form,

@@ -5,7 +5,7 @@ ghost use Rattle.m88_serving.specs.Lines.{behind_front, last_word, status_in, tr
 use m88_base::{Triple, hex8_of};
 
 /// What the line of the status tells of the processor, in words of 32 bits.
-#[derive(Clone, Copy, PartialEq, Eq, Debug)]
+#[derive(Clone, Copy)]
 pub struct StatusLine {
     pub epsr: u32,
     pub sxip: u32,

@@ -6,7 +6,7 @@ use m88_base::{Image, ImageFault, NoMemory};
 use std::alloc::Global;
 
 /// What becomes of naming words.
-#[derive(Drop, Debug)]
+#[derive(Drop)]
 pub(crate) enum Naming {
     /// An image that has them, and no other byte.
     Named(Image),

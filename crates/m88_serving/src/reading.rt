@@ -12,14 +12,14 @@ use std::alloc::Global;
 
 /// A data fault: the record that it left, whose event isn't told and counts as 0, and the words of data memory before,
 /// each with its byte address, a multiple of 4, in order of their lines.
-#[derive(Drop, Debug)]
+#[derive(Drop)]
 pub(crate) struct Told {
     pub fault: Record,
     pub words: Vec<(u32, u32)>,
 }
 
 /// Why an input isn't read.
-#[derive(Clone, Copy, PartialEq, Eq, Debug)]
+#[derive(Clone, Copy)]
 pub(crate) enum Unread {
     /// The line of this number, from 1, isn't of the form, or isn't there.
     Form(u64),

@@ -1,11 +1,13 @@
 //! The text for an input: what the handler must come to, or the line that refuses the input.
-ghost use Rattle.std.specs.Prelude.{◌≡◌, ◌≤◌, IfOk, None, false, length, true};
+ghost use Rattle.std.specs.Prelude.{◌≡◌, ◌≤◌, ◌++◌, IfOk, None, OnOk, false, length, true};
 ghost use Rattle.m88_base.specs.Reading.{most_input};
 ghost use Rattle.m88_mem.specs.DataBus.{image_bus};
+ghost use Rattle.m88_scoreboard.specs.Registers.{none_waits, waiting_of};
 ghost use Rattle.m88_serving.specs.Faults.{record_fault};
 ghost use Rattle.m88_serving.specs.Served.{turned_down_line, served_text};
 ghost use Rattle.m88_serving.specs.Serving.{serving_with};
 ghost use Rattle.m88_serving.specs.Inside.Replies.{RepliesServed};
+ghost use Rattle.m88_serving.specs.Inside.Steps.{held_of, text_behind};
 
 use crate::fault::ServeKind;
 use crate::judging::record_fault;
@@ -68,12 +70,27 @@ fn accept(alloc: Global, fault: &Record, image: &Image) -> Result<Reply, NoMemor
     };
     let mut text = Vec::new(alloc);
     serve_all(&mut service, &fault.triples, &mut text)?;
-    push_registers(&mut text, fault.ssbr, &service.regs.values())?;
-    let words = service.memory.changed(alloc)?;
-    push_words(&mut text, words.as_slice())?;
-    push_slots(&mut text, service.ssbr, fault.snip, fault.sfip)?;
+    push_left(alloc, &mut text, &service, fault)?;
     Ok(Reply {
         accepted: true,
         text,
     })
+}
+
+/// Appends what is left behind the service of a record's transactions.
+fn push_left(
+    alloc: Global,
+    text: &mut Vec<u8>,
+    service: &Service,
+    fault: &Record,
+) -> Result<(), NoMemory>
+    requires { waiting_of service.now.regs ≡ none_waits }
+    ensures { OnOk result (text.new.items ≡ text.old.items
+        ++ text_behind fault.now (image_bus service.now.memory.image) (held_of service.now)) }
+{
+    push_registers(text, fault.ssbr, &service.regs.values())?;
+    let words = service.memory.changed(alloc)?;
+    push_words(text, words.as_slice())?;
+    push_slots(text, service.ssbr, fault.snip, fault.sfip)?;
+    Ok(())
 }

@@ -18,7 +18,7 @@ use m88_mem::Memory;
 use m88_scoreboard::RegFile;
 
 /// What the service has come to: the registers, data memory, and SSBR.
-#[derive(Drop, Debug)]
+#[derive(Drop)]
 pub(crate) struct Service {
     pub regs: RegFile,
     pub memory: Memory,

@@ -1,15 +1,19 @@
 -- The service of one transaction, as the code makes it: registers, words and SSBR alone.
+use Rattle.std.specs.List.{flat_map}
 use Rattle.std.specs.Prelude.{ℕ, Bool, true, ◌||◌, ◌&&◌, ◌%◌, ◌++◌, not, List, slice_index_or, ◌≡◌, if◌then◌else◌}
 use Rattle.m88_base.specs.Reg.{number_of, with_register}
+use Rattle.m88_base.specs.RegisterSet.{registers_in}
 use Rattle.m88_base.specs.Triple.{no_triple}
 use Rattle.m88_base.specs.declared.triple.Triple.{Triple}
-use Rattle.m88_isa.specs.Bus.{bus_after, loaded, loads}
+use Rattle.m88_event.specs.declared.record.Record.{Record}
+use Rattle.m88_isa.specs.Bus.{bus_after, changed_words, loaded, loads}
 use Rattle.m88_isa.specs.Triples.{access_in, is_valid_triple}
 use Rattle.m88_isa.specs.declared.planned.Access.{Access}
 use Rattle.m88_isa.specs.Lanes.{IsEnable}
 use Rattle.m88_mem.specs.DataBus.{bus_of}
 use Rattle.m88_monitor.specs.Serving.{Serving, without_bit}
-use Rattle.m88_serving.specs.Served.{transaction_line}
+use Rattle.m88_report.specs.Report.{word_line}
+use Rattle.m88_serving.specs.Served.{registers_below, slots_text, transaction_line}
 use Rattle.m88_serving.specs.declared.service.Service.{Service}
 
 -- a set with the register that a transaction loads, where it is a valid load
@@ -56,6 +60,13 @@ lines_of_triples triples h =
 -- what a service has come to
 abbrev pub held_of : Service → Held
 held_of service = record { numbers = service.regs.numbers; bus = bus_of service.memory; ssbr = service.ssbr }
+
+-- what is written of that behind the service of a record's transactions, where data memory was a bus
+abbrev pub text_behind : Record → (ℕ → ℕ) → Held → List ℕ
+text_behind r bus held =
+    registers_below (registers_in r.ssbr) held.numbers 32
+    ++ flat_map word_line (changed_words bus held.bus)
+    ++ slots_text held.ssbr r.snip r.sfip
 
 -- a valid transaction is an access to some bytes of a word
 pub record IsServable (t : Triple) : Type 0 where
