@@ -81,7 +81,7 @@ fn step(walk: &mut Walk, image: &Image, at: u32) -> Result<Option<u32>, AllocErr
     Ok(next)
 }
 
-/// Follows a way to its end, or up to the head of a further one.
+/// Follows a way to its end, or up to the head of a further one, where its head wasn't found yet.
 fn follow_way(walk: &mut Walk, image: &Image, head: u32) -> Result<(), AllocError>
     requires { IsClosed image.now walk.old (λ b. b ≡ head) }
     ensures closed { OnOk result (IsClosed image.now walk.new (λ _. ⊥)) }
@@ -91,6 +91,9 @@ fn follow_way(walk: &mut Walk, image: &Image, head: u32) -> Result<(), AllocErro
     ensures found { OnOk result (HasInstruction image.now head
         → IsTrue (has_word walk.new.outline.code head)) }
 {
+    if walk.outline.code.contains(head) {
+        return Ok(());
+    }
     let mut next = step(walk, image, head)?;
     for _ in 1..MOST_OF_A_WAY {
         let Some(at) = next else {

@@ -1,11 +1,22 @@
 -- One step more, and the end of a way.
-use Rattle.std.proofs.Common.{◌≡◌, ◌∙◌, ℕ, Some, IfSome, refl, subst, sym}
+use Rattle.std.proofs.Common.{◌≡◌, ◌∙◌, ℕ, Some, IfSome, [], append-nil, refl, subst, sym}
 use Rattle.std.specs.Prelude.{Option}
 use Rattle.std.specs.Option.{option_to_list}
 use Rattle.std.proofs.lemmas.Result.{on_ok_weaker}
 use Rattle.m88_sourcing.specs.Inside.Walks.{IsReachedIfCode}
-use Rattle.m88_sourcing.proofs.Walking.{ended_closed, ended_sound, kept_then, left_as}
+use Rattle.m88_sourcing.proofs.Walking.{ended_closed, ended_sound, kept_then, left_as, none_left}
 use Rattle.m88_sourcing.proofs.reaching.follow_way.Goals as goal
+
+pub returns-then-contains-clause-closed : goal.returns-then-contains-clause-closed
+returns-then-contains-clause-closed c =
+    none_left c.args.image.now c.args.walk.now c.args.head (λ _. ⊥) (λ _. sym c.contains.ensures ∙ c.if-contains.true) c.requires
+
+pub returns-then-contains-clause-keeps : goal.returns-then-contains-clause-keeps
+returns-then-contains-clause-keeps c = record {
+  code = λ a there. there;
+  more = [];
+  heads = sym (append-nil c.args.walk.now.heads.items);
+}
 
 pub returns-in_default-clause-closed : goal.returns-in_default-clause-closed
 returns-in_default-clause-closed c =
