@@ -1,5 +1,5 @@
 //! The top call.
-ghost use Rattle.std.specs.Prelude.{[], ◌≡◌, ◌≢◌, ◌↔◌, ◌⊎◌, ◌+◌, ℕ, List, IfErr, IfOk, OnErr, Some, false, length};
+ghost use Rattle.std.specs.Prelude.{[], ◌≡◌, ◌≢◌, ◌↔◌, ◌⊎◌, ℕ, List, IfErr, IfOk, OnErr, Some, false};
 ghost use Rattle.m88_base.specs.Causes.{Rose};
 ghost use Rattle.m88_base.specs.Filter.{ReadsFor, WritesFor, WritesPart, WritesText};
 ghost use Rattle.m88_base.specs.OneVerdict.{HasOneFaultUnless, HasOneVerdict};
@@ -44,8 +44,8 @@ pub fn m88<S: Source, K: Sink, W: Watch>(
     ensures no_reader { SpellNoReader (texts words.now)
         → (result ≢ Status.SourceFault) × (result ≢ Status.TooLong) }
 
-    // Whatever the answer is: the source is read by few calls, a source or a sink is blamed only for what it did,
-    // no failure is passed over, and without a text nothing is written.
+    // Whatever the answer is: at most two calls more are made of the source than an input may have bytes. A source
+    // or a sink is blamed only for what it did, and no failure is passed over. Without a text nothing is written.
     ensures reading { ReadsFor S.left S.calls S.faults source.old source.new result }
     ensures writing { WritesFor K.faults sink.old sink.new result }
 
@@ -85,8 +85,8 @@ pub fn m88<S: Source, K: Sink, W: Watch>(
         → ¬ Rose (K.faults sink.old) (K.faults sink.new)
         → Answers (Accepts command input) result }
 
-    // Where memory ran out the watch was shown nothing, or a front of the boards of an input that is accepted;
-    // with every other answer it was shown nothing.
+    // Without an answer, with a refusal, and by a command that has no run the watch was shown nothing; where
+    // memory ran out nothing, or a front of the boards of an input that is accepted.
     ensures unshown { ShowsNothing result → watch.new ≡ watch.old }
     ensures unshown_by { SpellNoRun (texts words.now) → watch.new ≡ watch.old }
     ensures front { result ≡ Status.Memory → (watch.new ≡ watch.old)

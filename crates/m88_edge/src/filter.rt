@@ -17,8 +17,8 @@ pub trait Filter {
     fn answer(&self, rt: &HostRuntime, words: &[String]) -> Status;
 }
 
-/// Runs a program with the words of its process, and gives the exit status of that. Where nothing was answered, a person
-/// is told why on standard error.
+/// Runs a program with the words of its process, and gives the exit status of that. Where nothing was answered, a
+/// person is told why on standard error.
 pub fn run<F: Filter>(rt: &HostRuntime, filter: &F) -> ExitCode {
     let name = filter.name();
     let Ok(arguments) = env::args(rt) else {

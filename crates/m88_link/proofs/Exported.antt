@@ -11,7 +11,7 @@ use Rattle.std.specs.Option.{option_map, option_or}
 use Rattle.m88_base.proofs.Laws.{option_or_assoc}
 use Rattle.m88_link.specs.declared.fault.LinkFault.{LinkFault}
 use Rattle.m88_link.specs.declared.object.Symbol.{Symbol}
-use Rattle.m88_link.specs.Inside.Exports.{marked, repeated_in, taken, taken_one, withdrawn}
+use Rattle.m88_link.specs.Inside.Exports.{with_global, repeated_in, taken, taken_one, withdrawn}
 use Rattle.m88_link.specs.Refusal.{duplicate, duplicate_fault}
 use Rattle.m88_link.specs.Symbols.{Repetition, repetition, repeated_after, symbol_of}
 
@@ -53,7 +53,7 @@ count name xs = count_by (λ (g : Symbol). bytes_eq name g.name) xs
 
 -- a table finds by each name the first symbol that has it, which is global where no other has it
 abbrev pub Finds : List Symbol → List Symbol → Type 0
-Finds all table = (name : List ℕ) → symbol_of table name ≡ option_map (marked (count name all == 1)) (symbol_of all name)
+Finds all table = (name : List ℕ) → symbol_of table name ≡ option_map (with_global (count name all == 1)) (symbol_of all name)
 
 -- one symbol more
 found_more : (xs : List Symbol) (s : Symbol) (name : List ℕ)
@@ -107,7 +107,7 @@ still_many n = ap (λ (k : ℕ). k == 1) (omega arith)
 
 -- what is found by a name after one is withdrawn
 withdrawn_found : (own : List ℕ) (ss : List Symbol) (name : List ℕ)
-    → symbol_of (withdrawn own ss) name ≡ (if bytes_eq name own then option_map (marked false) (symbol_of ss name) else symbol_of ss name)
+    → symbol_of (withdrawn own ss) name ≡ (if bytes_eq name own then option_map (with_global false) (symbol_of ss name) else symbol_of ss name)
 withdrawn_found own [] name = by (bytes_eq name own)
   where
     by : (t : Bool) → ◌≡◌ {A = Option Symbol} None (if t then None else None)
@@ -125,11 +125,11 @@ withdrawn_found own (s ∷ ss) name = by (bytes_eq own s.name) (bytes_eq name s.
     same_test a = ap (bytes_eq name) (sym ((bytes_eq-Decides own s.name).0 a))
 
     by : (a b c : Bool) → bytes_eq own s.name ≡ a → bytes_eq name s.name ≡ b → bytes_eq name own ≡ c
-        → symbol_of (withdrawn own ss) name ≡ (if c then option_map (marked false) (symbol_of ss name) else symbol_of ss name)
-        → symbol_of (if a then marked false s ∷ ss else s ∷ withdrawn own ss) name
-        ≡ (if c then option_map (marked false) (if b then Some s else symbol_of ss name) else (if b then Some s else symbol_of ss name))
-    by true true true ea eb ec rest = ap (λ (t : Bool). if t then Some (marked false s) else symbol_of ss name) eb
-    by true false false ea eb ec rest = ap (λ (t : Bool). if t then Some (marked false s) else symbol_of ss name) eb
+        → symbol_of (withdrawn own ss) name ≡ (if c then option_map (with_global false) (symbol_of ss name) else symbol_of ss name)
+        → symbol_of (if a then with_global false s ∷ ss else s ∷ withdrawn own ss) name
+        ≡ (if c then option_map (with_global false) (if b then Some s else symbol_of ss name) else (if b then Some s else symbol_of ss name))
+    by true true true ea eb ec rest = ap (λ (t : Bool). if t then Some (with_global false s) else symbol_of ss name) eb
+    by true false false ea eb ec rest = ap (λ (t : Bool). if t then Some (with_global false s) else symbol_of ss name) eb
     by true true false ea eb ec rest = absurd (let clash : true ≡ false = sym eb ∙ same_test ea ∙ ec in cc)
     by true false true ea eb ec rest = absurd (let clash : false ≡ true = sym eb ∙ same_test ea ∙ ec in cc)
     by false true true ea eb ec rest = absurd (all_three ea eb ec)
@@ -144,36 +144,36 @@ finds_new all table s h seen absent name =
     found_more table s name
     ∙ ap (λ o. option_or o (if bytes_eq name s.name then Some s else None)) (h name)
     ∙ by (bytes_eq name s.name) refl
-    ∙ ap (λ (n : ℕ). option_map (marked (n == 1)) (option_or (symbol_of all name) (if bytes_eq name s.name then Some s else None))) (sym (count_more all s name))
-    ∙ ap (option_map (marked (count name (all ++ s ∷ []) == 1))) (sym (found_more all s name))
+    ∙ ap (λ (n : ℕ). option_map (with_global (n == 1)) (option_or (symbol_of all name) (if bytes_eq name s.name then Some s else None))) (sym (count_more all s name))
+    ∙ ap (option_map (with_global (count name (all ++ s ∷ []) == 1))) (sym (found_more all s name))
   where
     none : bytes_eq name s.name ≡ true → symbol_of all name ≡ None
     none e =
-        nothing (marked (count name all == 1)) (symbol_of all name)
+        nothing (with_global (count name all == 1)) (symbol_of all name)
         (sym (h name) ∙ ap (symbol_of table) (same_name name s e) ∙ absent)
 
     by : (t : Bool) → bytes_eq name s.name ≡ t
-        → option_or (option_map (marked (count name all == 1)) (symbol_of all name)) (if t then Some s else None)
-        ≡ option_map (marked (count name all + cond t 1 0 == 1)) (option_or (symbol_of all name) (if t then Some s else None))
+        → option_or (option_map (with_global (count name all == 1)) (symbol_of all name)) (if t then Some s else None)
+        ≡ option_map (with_global (count name all + cond t 1 0 == 1)) (option_or (symbol_of all name) (if t then Some s else None))
     by true e =
-        ap (λ o. option_or (option_map (marked (count name all == 1)) o) (Some s)) (none e)
-        ∙ ap (λ (b : Bool). Some (marked b s)) seen
-        ∙ ap (λ (n : ℕ). Some (marked (n + 1 == 1) s)) (sym (no_count all name (none e)))
-        ∙ ap (λ o. option_map (marked (count name all + 1 == 1)) (option_or o (Some s))) (sym (none e))
+        ap (λ o. option_or (option_map (with_global (count name all == 1)) o) (Some s)) (none e)
+        ∙ ap (λ (b : Bool). Some (with_global b s)) seen
+        ∙ ap (λ (n : ℕ). Some (with_global (n + 1 == 1) s)) (sym (no_count all name (none e)))
+        ∙ ap (λ o. option_map (with_global (count name all + 1 == 1)) (option_or o (Some s))) (sym (none e))
     by false e =
-        or_none (option_map (marked (count name all == 1)) (symbol_of all name))
-        ∙ ap (λ (b : Bool). option_map (marked b) (symbol_of all name)) (still_many (count name all))
-        ∙ ap (option_map (marked (count name all + 0 == 1))) (sym (or_none (symbol_of all name)))
+        or_none (option_map (with_global (count name all == 1)) (symbol_of all name))
+        ∙ ap (λ (b : Bool). option_map (with_global b) (symbol_of all name)) (still_many (count name all))
+        ∙ ap (option_map (with_global (count name all + 0 == 1))) (sym (or_none (symbol_of all name)))
 
 -- a symbol of a name that is there
 finds_again : (all table : List Symbol) (s : Symbol) → Finds all table → is_some (symbol_of table s.name) ≡ true
     → Finds (all ++ s ∷ []) (withdrawn s.name table)
 finds_again all table s h there name =
     withdrawn_found s.name table name
-    ∙ ap (λ o. if bytes_eq name s.name then option_map (marked false) o else o) (h name)
+    ∙ ap (λ o. if bytes_eq name s.name then option_map (with_global false) o else o) (h name)
     ∙ by (bytes_eq name s.name) refl
-    ∙ ap (λ (n : ℕ). option_map (marked (n == 1)) (option_or (symbol_of all name) (if bytes_eq name s.name then Some s else None))) (sym (count_more all s name))
-    ∙ ap (option_map (marked (count name (all ++ s ∷ []) == 1))) (sym (found_more all s name))
+    ∙ ap (λ (n : ℕ). option_map (with_global (n == 1)) (option_or (symbol_of all name) (if bytes_eq name s.name then Some s else None))) (sym (count_more all s name))
+    ∙ ap (option_map (with_global (count name (all ++ s ∷ []) == 1))) (sym (found_more all s name))
   where
     kept : (f : Symbol → Symbol) (o : Option Symbol) → is_some (option_map f o) ≡ is_some o
     kept f None = refl
@@ -181,27 +181,27 @@ finds_again all table s h there name =
 
     some : bytes_eq name s.name ≡ true → is_some (symbol_of all name) ≡ true
     some e =
-        sym (kept (marked (count name all == 1)) (symbol_of all name)) ∙ ap is_some (sym (h name))
+        sym (kept (with_global (count name all == 1)) (symbol_of all name)) ∙ ap is_some (sym (h name))
         ∙ ap (λ (n : List ℕ). is_some (symbol_of table n)) (same_name name s e) ∙ there
 
     more_than_one : (n : ℕ) → nat_lt 0 n ≡ true → false ≡ (n + 1 == 1)
     more_than_one n e = grind (arith, nat_tests)
 
     first : (o : Option Symbol) (t u : Bool) → is_some o ≡ true → false ≡ u
-        → option_map (marked false) (option_map (marked t) o) ≡ option_map (marked u) (option_or o (Some s))
+        → option_map (with_global false) (option_map (with_global t) o) ≡ option_map (with_global u) (option_or o (Some s))
     first None t u h e = cc
-    first (Some x) t u h e = ap (λ (b : Bool). Some (marked b x)) e
+    first (Some x) t u h e = ap (λ (b : Bool). Some (with_global b x)) e
 
     by : (t : Bool) → bytes_eq name s.name ≡ t
-        → (if t then option_map (marked false) (option_map (marked (count name all == 1)) (symbol_of all name))
-        else option_map (marked (count name all == 1)) (symbol_of all name))
-        ≡ option_map (marked (count name all + cond t 1 0 == 1)) (option_or (symbol_of all name) (if t then Some s else None))
+        → (if t then option_map (with_global false) (option_map (with_global (count name all == 1)) (symbol_of all name))
+        else option_map (with_global (count name all == 1)) (symbol_of all name))
+        ≡ option_map (with_global (count name all + cond t 1 0 == 1)) (option_or (symbol_of all name) (if t then Some s else None))
     by true e =
         first (symbol_of all name) (count name all == 1) (count name all + 1 == 1) (some e)
         (more_than_one (count name all) (sym (found_some all name) ∙ some e))
     by false e =
-        ap (λ (b : Bool). option_map (marked b) (symbol_of all name)) (still_many (count name all))
-        ∙ ap (option_map (marked (count name all + 0 == 1))) (sym (or_none (symbol_of all name)))
+        ap (λ (b : Bool). option_map (with_global b) (symbol_of all name)) (still_many (count name all))
+        ∙ ap (option_map (with_global (count name all + 0 == 1))) (sym (or_none (symbol_of all name)))
 
 finds_one : (all table : List Symbol) (s : Symbol) → Finds all table → s.global ≡ true → Finds (all ++ s ∷ []) (taken_one table s)
 finds_one all table s h seen = by (symbol_of table s.name) refl
@@ -226,7 +226,7 @@ same_repetition all table s h =
     ap (option_map (λ (f : Symbol). let r : Repetition = record { symbol = s; first = f.line } in r)) (h s.name) ∙ by (symbol_of all s.name)
   where
     by : (o : Option Symbol)
-        → option_map (λ (f : Symbol). let r : Repetition = record { symbol = s; first = f.line } in r) (option_map (marked (count s.name all == 1)) o)
+        → option_map (λ (f : Symbol). let r : Repetition = record { symbol = s; first = f.line } in r) (option_map (with_global (count s.name all == 1)) o)
         ≡ option_map (λ (f : Symbol). let r : Repetition = record { symbol = s; first = f.line } in r) o
     by None = refl
     by (Some x) = refl

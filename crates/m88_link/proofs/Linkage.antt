@@ -15,7 +15,7 @@ use Rattle.m88_link.specs.Bases.{Placement, first_data, first_text, section_size
 use Rattle.m88_link.specs.Faults.{memory_fault}
 use Rattle.m88_link.specs.Forced.{IsAllocated, forced_layout, resolvable}
 use Rattle.m88_link.specs.Inside.Carried.{AreAlone}
-use Rattle.m88_link.specs.Inside.Exports.{marked, taken}
+use Rattle.m88_link.specs.Inside.Exports.{with_global, taken}
 use Rattle.m88_link.specs.Inside.Findings.{with_duplicate, with_uses}
 use Rattle.m88_link.specs.Inside.Resolved.{all_uses, carried_spots}
 use Rattle.m88_link.specs.Layout.{Extent, extents_of, globals_of, layout_at, layout_of, spots_of}
@@ -130,7 +130,7 @@ undefined_first ps e once h =
 start_is : (all table : List Symbol) → Finds all table → start_address table ≡ start_address all
 start_is all table h = ap (λ (o : Option Symbol). option_map_or (λ g. g.value) o first_text) (h start_name) ∙ by (symbol_of all start_name)
   where
-    by : (o : Option Symbol) → option_map_or (λ (g : Symbol). g.value) (option_map (marked (count start_name all == 1)) o) first_text ≡ option_map_or (λ (g : Symbol). g.value) o first_text
+    by : (o : Option Symbol) → option_map_or (λ (g : Symbol). g.value) (option_map (with_global (count start_name all == 1)) o) first_text ≡ option_map_or (λ (g : Symbol). g.value) o first_text
     by None = refl
     by (Some x) = refl
 

@@ -13,7 +13,7 @@ use Rattle.m88_link.specs.Bases.{Placement, base_of}
 use Rattle.m88_link.specs.Field.{is_in_reach}
 use Rattle.m88_link.specs.Forced.{is_resolvable}
 use Rattle.m88_link.specs.Inside.Carried.{carried, patched_in}
-use Rattle.m88_link.specs.Inside.Exports.{marked}
+use Rattle.m88_link.specs.Inside.Exports.{with_global}
 use Rattle.m88_link.specs.Inside.Resolved.{carried_known, is_kept, known_value, use_in, value_alone, value_or_zero}
 use Rattle.m88_link.specs.Layout.{Reference, reference, value_of_name}
 use Rattle.m88_link.specs.Refusal.{too_far_in, undefined_in}
@@ -38,12 +38,12 @@ known_is all table p name h =
     nothing t e = ap (λ (b : Bool). if b then Some 0 else None) e
 
     other : (o : Option Symbol) → symbol_of all name ≡ o
-        → option_and_then value_alone (option_map (marked alone) o) ≡ (if alone then Some (unwrap_or (option_map (λ g. g.value) o) 0) else None)
+        → option_and_then value_alone (option_map (with_global alone) o) ≡ (if alone then Some (unwrap_or (option_map (λ g. g.value) o) 0) else None)
     other None e = nothing alone (none_alone (count name all) (no_count all name e))
     other (Some g) e = refl
 
     own : (o : Option Symbol)
-        → option_or (option_map (value_in (base_of p)) o) (option_and_then value_alone (option_map (marked alone) (symbol_of all name)))
+        → option_or (option_map (value_in (base_of p)) o) (option_and_then value_alone (option_map (with_global alone) (symbol_of all name)))
         ≡ (if is_some o || alone then Some (unwrap_or (option_or (option_map (value_in (base_of p)) o) (option_map (λ g. g.value) (symbol_of all name))) 0) else None)
     own (Some x) = refl
     own None = other (symbol_of all name) refl
@@ -100,7 +100,7 @@ means_is all table p name h few =
     one n low some = grind (arith, nat_tests)
 
     other : (o : Option Symbol) → is_some o ≡ nat_lt 0 (count name all)
-        → option_and_then value_alone (option_map (marked (count name all == 1)) o) ≡ option_map (λ g. g.value) o
+        → option_and_then value_alone (option_map (with_global (count name all == 1)) o) ≡ option_map (λ g. g.value) o
     other None e = refl
     other (Some g) e = ap (λ (t : Bool). if t then Some g.value else None) (one (count name all) few e)
 

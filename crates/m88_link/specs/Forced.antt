@@ -1,5 +1,5 @@
--- Forced linking (options of linkers: force, noinhibit-exec): the output file that is made although a name or a distance is
--- refused, without the relocations that can't be carried out.
+-- Forced linking (options of linkers: force, noinhibit-exec): the output file that is made although a name or a
+-- distance is refused, without the relocations that can't be carried out.
 use Rattle.std.specs.Prelude.{◌≡◌, ◌+◌, ◌&&◌, Bool, false, filter, List, map}
 use Rattle.m88_link.specs.declared.object.Object.{Object}
 use Rattle.m88_link.specs.declared.object.Reloc.{Reloc}

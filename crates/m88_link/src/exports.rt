@@ -3,7 +3,7 @@ ghost use Rattle.std.specs.Prelude.{◌≡◌, ◌∷◌, [], IfOk, flat_map, On
 ghost use Rattle.std.specs.Option.{option_map};
 ghost use Rattle.m88_link.specs.Bases.{base_of};
 ghost use Rattle.m88_link.specs.Inside.Exports.{repeated_in, taken};
-ghost use Rattle.m88_link.specs.Inside.Findings.{EndsAt, with_duplicate};
+ghost use Rattle.m88_link.specs.Inside.Findings.{EndsAtFault, with_duplicate};
 ghost use Rattle.m88_link.specs.Layout.{globals_of};
 ghost use Rattle.m88_link.specs.Refusal.{duplicate_fault};
 ghost use Rattle.m88_link.specs.Symbols.{exported};
@@ -22,7 +22,7 @@ pub fn globals(
     placements: &[Placement],
 ) -> Result<SymbolTable, LinkFault>
     ensures table { IfOk result (λ table. table ≡ taken [] (flat_map globals_of placements.now)) }
-    ensures ends { EndsAt findings.old.goes_on
+    ensures ends { EndsAtFault findings.old.goes_on
         (option_map duplicate_fault (repeated_in [] (flat_map globals_of placements.now)))
         (findings.new ≡ with_duplicate findings.old
         (option_map duplicate_fault (repeated_in [] (flat_map globals_of placements.now)))) result }
@@ -43,7 +43,7 @@ fn export_all(
 ) -> Result<(), LinkFault>
     ensures table { OnOk result
         (table.new ≡ taken table.old (exported (base_of placement.now) symbols.now)) }
-    ensures ends { EndsAt findings.old.goes_on
+    ensures ends { EndsAtFault findings.old.goes_on
         (option_map duplicate_fault
         (repeated_in table.old (exported (base_of placement.now) symbols.now)))
         (findings.new ≡ with_duplicate findings.old (option_map duplicate_fault
@@ -68,7 +68,7 @@ fn export(
 ) -> Result<(), LinkFault>
     ensures table { OnOk result
         (table.new ≡ taken table.old (exported (base_of placement.now) (symbol.now ∷ []))) }
-    ensures ends { EndsAt findings.old.goes_on
+    ensures ends { EndsAtFault findings.old.goes_on
         (option_map duplicate_fault
         (repeated_in table.old (exported (base_of placement.now) (symbol.now ∷ []))))
         (findings.new ≡ with_duplicate findings.old (option_map duplicate_fault

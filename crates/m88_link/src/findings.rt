@@ -1,5 +1,5 @@
 //! The faults that name a symbol, of which linking refuses the first or keeps the first of each kind.
-ghost use Rattle.std.specs.Prelude.{◌≡◌, ◌∷◌, ◌++◌, false, true, MatchResult, None, Some};
+ghost use Rattle.std.specs.Prelude.{◌≡◌, false, true, MatchResult, None, Some};
 ghost use Rattle.std.specs.Option.{option_or};
 ghost use Rattle.m88_link.specs.Inside.Findings.{with_duplicate, with_uses};
 
@@ -77,7 +77,8 @@ impl Findings {
 
     /// The first of all in the order in which the kinds are tried.
     pub fn first(&self) -> Option<LinkFault>
-        ensures { result ≡ option_or self.now.duplicate (option_or self.now.undefined self.now.far) }
+        ensures { result ≡ option_or self.now.duplicate
+            (option_or self.now.undefined self.now.far) }
     {
         match self.duplicate {
             Some(fault) => Some(fault),

@@ -5,7 +5,7 @@ ghost use Rattle.m88_base.specs.Image.{byte_at, byte_count, most_bytes};
 ghost use Rattle.m88_base.specs.Placed.{byte_among, count_among};
 ghost use Rattle.m88_link.specs.Bases.{base_at};
 ghost use Rattle.m88_link.specs.Inside.Carried.{AreAlone, HasWord, unpatched, patched_spot};
-ghost use Rattle.m88_link.specs.Inside.Findings.{EndsAt, with_uses};
+ghost use Rattle.m88_link.specs.Inside.Findings.{EndsAtFault, with_uses};
 ghost use Rattle.m88_link.specs.Inside.Lent.{own_or_lent};
 ghost use Rattle.m88_link.specs.Inside.Resolved.{all_uses, carried_known, carried_spots, uses_in};
 ghost use Rattle.m88_link.specs.Refusal.{too_far, undefined};
@@ -103,7 +103,7 @@ pub fn spots<'a>(
 ) -> Result<Vec<Spot<'a>>, LinkFault>
     ensures spots { IfOk result (λ spots. spots.items
         ≡ flat_map (carried_spots globals.now) placements.now) }
-    ensures ends { EndsAt findings.old.goes_on
+    ensures ends { EndsAtFault findings.old.goes_on
         (undefined (flat_map (all_uses globals.now) placements.now))
         (findings.new ≡ with_uses findings.old
         (undefined (flat_map (all_uses globals.now) placements.now))
@@ -140,7 +140,7 @@ fn object_spots<'a>(
     globals: &SymbolTable,
 ) -> Result<Vec<Spot<'a>>, LinkFault>
     ensures spots { IfOk result (λ spots. spots.items ≡ carried_spots globals.now placement.now) }
-    ensures ends { EndsAt findings.old.goes_on (undefined (all_uses globals.now placement.now))
+    ensures ends { EndsAtFault findings.old.goes_on (undefined (all_uses globals.now placement.now))
         (findings.new ≡ with_uses findings.old (undefined (all_uses globals.now placement.now))
         (too_far (all_uses globals.now placement.now))) result }
 {
@@ -195,7 +195,7 @@ fn carry_out(
     requires words { All (HasWord spots.old.items) relocs.now }
     ensures spots { OnOk result (spots.new.items
         ≡ carried_known globals.now placement.now relocs.now spots.old.items) }
-    ensures ends { EndsAt findings.old.goes_on
+    ensures ends { EndsAtFault findings.old.goes_on
         (undefined (uses_in globals.now placement.now relocs.now))
         (findings.new ≡ with_uses findings.old
         (undefined (uses_in globals.now placement.now relocs.now))
@@ -226,7 +226,7 @@ fn carry(
     requires word { HasWord spots.old.items reloc.now }
     ensures spots { OnOk result (spots.new.items
         ≡ carried_known globals.now placement.now (reloc.now ∷ []) spots.old.items) }
-    ensures ends { EndsAt findings.old.goes_on
+    ensures ends { EndsAtFault findings.old.goes_on
         (undefined (uses_in globals.now placement.now (reloc.now ∷ [])))
         (findings.new ≡ with_uses findings.old
         (undefined (uses_in globals.now placement.now (reloc.now ∷ [])))

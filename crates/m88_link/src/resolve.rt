@@ -1,6 +1,6 @@
 //! What names mean, and the uses of names that can't be carried out.
 ghost use Rattle.std.specs.Prelude.{◌≡◌, ℕ, IfOk, List, None, Some, if◌then◌else◌};
-ghost use Rattle.m88_link.specs.Inside.Findings.{EndsAt, with_uses};
+ghost use Rattle.m88_link.specs.Inside.Findings.{EndsAtFault, with_uses};
 ghost use Rattle.m88_link.specs.Inside.Resolved.{is_kept, known_value, use_in, value_alone, value_or_zero};
 ghost use Rattle.m88_link.specs.Refusal.{too_far_in, undefined_in};
 ghost use Rattle.m88_link.specs.Relocated.{target_of};
@@ -74,7 +74,7 @@ fn target(
     Some(value.wrapping_add(addend))
 }
 
-/// The target of a relocation of an object where it can be carried out.
+/// The target of a relocation of an object where it can be carried out; where it can't, that is a finding, or refused.
 pub fn checked_target(
     findings: &mut Findings,
     globals: &SymbolTable,
@@ -87,7 +87,7 @@ pub fn checked_target(
     ensures target { IfOk result (λ target. target
         ≡ if is_kept globals.now placement.now reloc.now
         then Some (target_of (value_or_zero globals.now placement.now) reloc.now) else None) }
-    ensures ends { EndsAt findings.old.goes_on
+    ensures ends { EndsAtFault findings.old.goes_on
         (undefined_in (use_in globals.now placement.now reloc.now))
         (findings.new ≡ with_uses findings.old
         (undefined_in (use_in globals.now placement.now reloc.now))

@@ -1,5 +1,5 @@
 //! The text for a source: its listing, or the text that refuses it.
-ghost use Rattle.std.specs.Prelude.{◌≡◌, ◌≢◌, ◌≤◌, [], IfOk, length, map};
+ghost use Rattle.std.specs.Prelude.{◌≢◌, ◌≤◌, [], IfOk, length, map};
 ghost use Rattle.std.specs.List.{All};
 ghost use Rattle.m88_base.specs.Image.{IsImage, byte_at};
 ghost use Rattle.m88_parse.specs.Fault.{out_of_memory, reason};
@@ -125,8 +125,8 @@ fn unplaced(alloc: Global, source: &[u8], fault: LinkFault) -> Result<Reply, NoM
     refuse_bare(alloc, source, fault.line, fault.col, reason.as_bytes())
 }
 
-/// The reply for a fault of the unit's layout by which a name or a distance is refused, with the rows of what can be
-/// carried out, whose bytes the image has.
+/// The reply for a fault by which a name or a distance is refused. It has the rows of what can be carried out, whose
+/// bytes the image has.
 fn unnamed(
     alloc: Global,
     source: &[u8],

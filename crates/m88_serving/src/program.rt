@@ -1,5 +1,5 @@
 //! The top call.
-ghost use Rattle.std.specs.Prelude.{[], ◌≡◌, ◌≢◌, ◌↔◌, ◌+◌, ◌<◌, ℕ, IfErr, IfOk, List, Some, length};
+ghost use Rattle.std.specs.Prelude.{[], ◌≡◌, ◌↔◌, ◌<◌, ℕ, IfErr, IfOk, List, Some, length};
 ghost use Rattle.m88_base.specs.Causes.{Rose};
 ghost use Rattle.m88_base.specs.Filter.{AnswersInput, IsInputLeft, ReadsFor, WritesFor, WritesPart, WritesText};
 ghost use Rattle.m88_base.specs.Outside.{GivesAll, IsWhole};
@@ -27,8 +27,8 @@ pub fn m88serve<S: Source, K: Sink>(
     ensures usage { (result ≡ Status.Usage) ↔ (0 < length words.now) }
     ensures unread { 0 < length words.now → source.new ≡ source.old }
 
-    // Whatever the answer is: the source is read by few calls, a source or a sink is blamed only for what it did,
-    // no failure is passed over, and without a text nothing is written.
+    // Whatever the answer is: at most two calls more are made of the source than an input may have bytes. A source
+    // or a sink is blamed only for what it did, and no failure is passed over. Without a text nothing is written.
     ensures reading { ReadsFor S.left S.calls S.faults source.old source.new result }
     ensures writing { WritesFor K.faults sink.old sink.new result }
 
@@ -56,7 +56,8 @@ pub fn m88serve<S: Source, K: Sink>(
 
     // Without words, and where nothing failed, an input that is not too long is answered: Done if it is
     // accepted, Refused if it is not, or Memory.
-    ensures complete { (bytes : List ℕ) → length words.now ≡ 0 → IsInputLeft (S.left source.old) bytes
+    ensures complete { (bytes : List ℕ) → length words.now ≡ 0
+        → IsInputLeft (S.left source.old) bytes
         → ¬ Rose (S.faults source.old) (S.faults source.new)
         → ¬ Rose (K.faults sink.old) (K.faults sink.new)
         → Answers (IsTakenCase bytes) result }

@@ -42,8 +42,8 @@ use Rattle.m88_disasm.proofs.Laws.{Empty, Means, Names, Sets, a_set, bases, empt
 use Rattle.m88_disasm.proofs.Standing.{bytes_behind}
 use Rattle.m88_sourcing.specs.Code.{InCode, IsCode, HoldsInstruction}
 use Rattle.m88_sourcing.specs.Flow.{branch_target}
-use Rattle.m88_sourcing.specs.Insertion.{IsCarriedBy, IsFoundAgain, IsFoundAt, LeadsAgain, MovesCodeAlone}
-use Rattle.m88_sourcing.specs.Insertion.IsFoundAt.{carried, stays}
+use Rattle.m88_sourcing.specs.Insertion.{IsCarriedBy, IsFoundAgain, IsAgainAt, LeadsAgain, MovesCodeAlone}
+use Rattle.m88_sourcing.specs.Insertion.IsAgainAt.{carried, stays}
 use Rattle.m88_sourcing.specs.Labels.{label_of}
 use Rattle.m88_sourcing.specs.Targets.{counting}
 use Rattle.m88_sourcing.proofs.Accepted.{IsNear, not_too_far, uses_near}
@@ -179,7 +179,7 @@ four_same byte other p q each =
 
 -- a word of code is found again whole
 found_within : (image : ProgramImage) (entries : List ℕ) (w a p k : ℕ) → IsCode image entries w → IsCode image entries a
-    → k < 4 → IsFoundAt image entries w a p → IsFoundAt image entries w (a + k) (p + k)
+    → k < 4 → IsAgainAt image entries w a p → IsAgainAt image entries w (a + k) (p + k)
 found_within image entries w a p k code_w code low found = by found
   where
     aligned : a % 4 ≡ 0
@@ -207,9 +207,9 @@ found_within image entries w a p k code_w code low found = by found
       λ b up down. c.1 b up (omega (arith, down)),
     )
 
-    by : {q : ℕ} → IsFoundAt image entries w a q → IsFoundAt image entries w (a + k) (q + k)
+    by : {q : ℕ} → IsAgainAt image entries w a q → IsAgainAt image entries w (a + k) (q + k)
     by (carried c) =
-        let e : a + k + 4 ≡ a + 4 + k = omega arith in subst (IsFoundAt image entries w (a + k)) e (carried (onto c))
+        let e : a + k + 4 ≡ a + 4 + k = omega arith in subst (IsAgainAt image entries w (a + k)) e (carried (onto c))
     by (stays none) = stays (λ c. none (off c))
 
 -- the uses of names behind statements that name values
@@ -328,7 +328,7 @@ laid image entries w m is accepted = record {
 -- a byte whose statement is plain is found again
 byte_there : (image : ProgramImage) (entries : List ℕ) (w : ℕ) (m : Parted image entries w)
     → (l : IsLaid image entries w m)
-    → (a p : ℕ) → IsSome (byte_at image a) → IsFoundAt image entries w a p
+    → (a p : ℕ) → IsSome (byte_at image a) → IsAgainAt image entries w a p
     → ((q : ℕ) (x : Statement) → IsBranchAt image entries q x → q ≤ a → a < q + 4 → ⊥)
     → unit_byte (unit_of (m.f.statements ++ parted m)) p ≡ byte_at image a
 byte_there image entries w m l a p some found none =
@@ -354,7 +354,7 @@ byte_there image entries w m l a p some found none =
 
 -- where code is found again is below the last address
 found_low : (image : ProgramImage) (entries : List ℕ) (w : ℕ) (m : Parted image entries w) → IsImage image
-    → HasRoom image entries w m → (a p : ℕ) → IsCode image entries a → IsFoundAt image entries w a p → p < 2 ^ 32
+    → HasRoom image entries w m → (a p : ℕ) → IsCode image entries a → IsAgainAt image entries w a p → p < 2 ^ 32
 found_low image entries w m is room a p code found = by found
   where
     low : a < 2 ^ 32
@@ -364,7 +364,7 @@ found_low image entries w m is room a p code found = by found
         by_byte None h k = absurd cc
         by_byte (Some b) h k = h.0
 
-    by : {q : ℕ} → IsFoundAt image entries w a q → q < 2 ^ 32
+    by : {q : ℕ} → IsAgainAt image entries w a q → q < 2 ^ 32
     by (stays none) = low
     by (carried c) = elim (cases_lt a m.l.e) [
       | inl before ↦ let x = room.low in omega (arith, x, before)
@@ -373,7 +373,7 @@ found_low image entries w m is room a p code found = by found
           absurd (m.l.ends (c.1 m.l.e (omega (arith, b_ends)) past))
     ]
 
-found_whole : (image : ProgramImage) (entries : List ℕ) (w a p : ℕ) → a % 4 ≡ 0 → IsFoundAt image entries w a p
+found_whole : (image : ProgramImage) (entries : List ℕ) (w a p : ℕ) → a % 4 ≡ 0 → IsAgainAt image entries w a p
     → p % 4 ≡ 0
 found_whole image entries w a _ whole (carried c) = omega (arith, whole)
 found_whole image entries w a _ whole (stays none) = whole
@@ -388,7 +388,7 @@ plain_found image entries w m l a i code_w code stands none =
     row_there l.value l.d at_begin 0 (parted m) (IsByteAgain image entries w a) l.placed
     (find_byte image entries w m a (code_some image entries a code)) in
     let p : ℕ = r.at + (a - r.is.q) in
-    let found : IsFoundAt image entries w a p = r.is.found in
+    let found : IsAgainAt image entries w a p = r.is.found in
     let each : (k : ℕ) → k < 4
     → unit_byte (unit_of (m.f.statements ++ parted m)) (p + k) ≡ byte_at image (a + k) = λ k low.
     byte_there image entries w m l (a + k) (p + k) (some_there k low)
@@ -453,17 +453,17 @@ BranchRow {image = image} {entries = entries} {w = w} m l a q y =
     IsBranchAgain image entries w a q y × IsInReach l.g l.base l.ss q y
 
 label_leads : (image : ProgramImage) (entries : List ℕ) (w t u : ℕ) → t < 2 ^ 32 → newly image entries w (label_of t) u
-    → IsFoundAt image entries w t u
+    → IsAgainAt image entries w t u
 label_leads image entries w t u low new = by new.1
   where
     by : (((label_of t ≡ codes "_start") × StartsAt image entries w u)
         ⊎ ((q : ℕ) × (label_of t ≡ label_of q) × (q < 2 ^ 32) × IsNameable image entries q
-        × IsFoundAt image entries w q u))
-        → IsFoundAt image entries w t u
+        × IsAgainAt image entries w q u))
+        → IsAgainAt image entries w t u
     by (inl x) = absurd (no_start t x.0)
     by (inr x) =
         let same : x.0 ≡ t = sym (one_name t x.0 low x.2 x.1) in
-        subst (λ (q : ℕ). IsFoundAt image entries w q u) same x.4
+        subst (λ (q : ℕ). IsAgainAt image entries w q u) same x.4
 
 -- the statement of a branch gives the branch that leads to what its name means
 record GivesBranch (image : ProgramImage) (entries : List ℕ) (w : ℕ) (m : Parted image entries w)
@@ -507,7 +507,7 @@ gives_branch image entries w m l a i t p u x b stands to low new reach =
 branch_in : (image : ProgramImage) (entries : List ℕ) (w : ℕ) (m : Parted image entries w)
     (l : IsLaid image entries w m) (a : ℕ) (i : Instr) (t u : ℕ) (r : HasRow l.value 0 (parted m) (BranchRow m l a))
     → GivesBranch image entries w m l i r.at u r.x → HoldsInstruction image a i → branch_target a i ≡ Some t
-    → IsFoundAt image entries w t u
+    → IsAgainAt image entries w t u
     → IsFoundAgain image entries w (unit_byte (unit_of (m.f.statements ++ parted m))) a i
 branch_in image entries w m l a i t u r g stands to leads =
     let word : ℕ = word_of (counting g.there.words i) in
@@ -563,7 +563,7 @@ moves_alone image entries w m is code_w accepted = record {
       let e : q ≡ word_address a = omega (arith, whole, from, below) in
       none (subst (IsCode image entries) e b.code));
   found = λ a i code stands. by a i code stands (branch_target a i) refl;
-  start = λ code. subst (IsFoundAt image entries w image.start) (sym l.start) (start_found code l.told.starts.1);
+  start = λ code. subst (IsAgainAt image entries w image.start) (sym l.start) (start_found code l.told.starts.1);
 }
   where
     l : IsLaid image entries w m
@@ -578,8 +578,8 @@ moves_alone image entries w m is code_w accepted = record {
     start_found : IsCode image entries image.start → {p : ℕ}
         → (((codes "_start" ≡ codes "_start") × StartsAt image entries w p)
         ⊎ ((q : ℕ) × (codes "_start" ≡ label_of q) × (q < 2 ^ 32) × IsNameable image entries q
-        × IsFoundAt image entries w q p))
-        → IsFoundAt image entries w image.start p
+        × IsAgainAt image entries w q p))
+        → IsAgainAt image entries w image.start p
     start_found code (inl (same, inl x)) = x.1
     start_found code (inl (same, inr x)) = absurd (x.0 code)
     start_found code (inr x) = absurd (no_start x.0 (sym x.1))

@@ -6,8 +6,8 @@ use Rattle.m88_base.specs.Image.{ProgramImage, byte_at}
 use Rattle.m88_parse.specs.declared.unit.Statement.{Statement}
 use Rattle.m88_disasm.proofs.Laws.{AreLow, HasName, MeanOne, Names, Sets, a_set, names_in, no_set}
 use Rattle.m88_sourcing.specs.Code.{IsCode}
-use Rattle.m88_sourcing.specs.Insertion.{IsFoundAt}
-use Rattle.m88_sourcing.specs.Insertion.IsFoundAt.{carried, stays}
+use Rattle.m88_sourcing.specs.Insertion.{IsAgainAt}
+use Rattle.m88_sourcing.specs.Insertion.IsAgainAt.{carried, stays}
 use Rattle.m88_sourcing.specs.Labels.{label_of}
 use Rattle.m88_sourcing.proofs.Bared.{MovesNames}
 use Rattle.m88_sourcing.proofs.Names.{IsNameable, NameOnly, NamesOne, named, no_start, one_name}
@@ -16,7 +16,7 @@ use Rattle.m88_sourcing.proofs.Cutting.{no_code_there}
 -- where the start is found again, where it is code
 abbrev pub StartsAt : ProgramImage → List ℕ → ℕ → ℕ → Type 0
 StartsAt image entries w p =
-    (IsCode image entries image.start × IsFoundAt image entries w image.start p)
+    (IsCode image entries image.start × IsAgainAt image entries w image.start p)
     ⊎ ((IsCode image entries image.start → ⊥) × (p ≡ image.start))
 
 -- what names stand for
@@ -24,11 +24,11 @@ abbrev pub newly : ProgramImage → List ℕ → ℕ → Names
 newly image entries w name p =
     (p < 2 ^ 32)
     × (((name ≡ codes "_start") × StartsAt image entries w p)
-    ⊎ ((q : ℕ) × (name ≡ label_of q) × (q < 2 ^ 32) × IsNameable image entries q × IsFoundAt image entries w q p))
+    ⊎ ((q : ℕ) × (name ≡ label_of q) × (q < 2 ^ 32) × IsNameable image entries q × IsAgainAt image entries w q p))
 
 -- an address is found at one
-pub found_one : (image : ProgramImage) (entries : List ℕ) (w a p q : ℕ) → IsFoundAt image entries w a p
-    → IsFoundAt image entries w a q → p ≡ q
+pub found_one : (image : ProgramImage) (entries : List ℕ) (w a p q : ℕ) → IsAgainAt image entries w a p
+    → IsAgainAt image entries w a q → p ≡ q
 found_one image entries w a _ _ (carried h) (carried k) = refl
 found_one image entries w a _ _ (carried h) (stays k) = absurd (k h)
 found_one image entries w a _ _ (stays h) (carried k) = absurd (h k)
@@ -50,7 +50,7 @@ one_newly image entries w name a b h k = by h.1 k.1
     Is : ℕ → Type 0
     Is p =
         ((name ≡ codes "_start") × StartsAt image entries w p)
-        ⊎ ((q : ℕ) × (name ≡ label_of q) × (q < 2 ^ 32) × IsNameable image entries q × IsFoundAt image entries w q p)
+        ⊎ ((q : ℕ) × (name ≡ label_of q) × (q < 2 ^ 32) × IsNameable image entries q × IsAgainAt image entries w q p)
 
     by : Is a → Is b → a ≡ b
     by (inl x) (inl y) = one_start image entries w a b x.1 y.1
@@ -58,12 +58,12 @@ one_newly image entries w name a b h k = by h.1 k.1
     by (inr x) (inl y) = absurd (no_start x.0 (sym x.1 ∙ y.0))
     by (inr x) (inr y) =
         let same : x.0 ≡ y.0 = one_name x.0 y.0 x.2 y.2 (sym x.1 ∙ y.1) in
-        found_one image entries w y.0 a b (subst (λ (q : ℕ). IsFoundAt image entries w q a) same x.4) y.4
+        found_one image entries w y.0 a b (subst (λ (q : ℕ). IsAgainAt image entries w q a) same x.4) y.4
 
 -- names of addresses of a kind move with them
 pub moved_name : (image : ProgramImage) (entries : List ℕ) (w n : ℕ) (K : ℕ → Type 0) (S : Type 0) (name : List ℕ)
     (a : ℕ)
-    → ((b : ℕ) → K b → IsFoundAt image entries w b (b + n)) → ((b : ℕ) → K b → b + n < 2 ^ 32)
+    → ((b : ℕ) → K b → IsAgainAt image entries w b (b + n)) → ((b : ℕ) → K b → b + n < 2 ^ 32)
     → (S → K image.start × IsCode image entries image.start)
     → NamesOne K S name → named image entries name a → newly image entries w name (a + n)
 moved_name image entries w n K S name a found low start only old = by only old.1
@@ -91,7 +91,7 @@ only_one K S (n ∷ names) name only (inr has) = only_one K S names name only.1 
 
 pub moves_names : (image : ProgramImage) (entries : List ℕ) (w n : ℕ) (K L : ℕ → Type 0) (S : Type 0)
     (xs : List Statement)
-    → ((b : ℕ) → K b → IsFoundAt image entries w b (b + n)) → ((b : ℕ) → K b → b + n < 2 ^ 32)
+    → ((b : ℕ) → K b → IsAgainAt image entries w b (b + n)) → ((b : ℕ) → K b → b + n < 2 ^ 32)
     → ((b : ℕ) → L b → K b) → (S → K image.start × IsCode image entries image.start)
     → NameOnly L S (names_in xs) → MovesNames (named image entries) (newly image entries w) n xs
 moves_names image entries w n K L S xs found low less start only name a has old =
@@ -103,7 +103,7 @@ moves_names image entries w n K L S xs found low less start only name a has old 
 
 -- values stay
 far_found : (image : ProgramImage) (entries : List ℕ) (w a : ℕ) → byte_at image a ≡ None
-    → IsFoundAt image entries w a a
+    → IsAgainAt image entries w a a
 far_found image entries w a none =
     stays (λ c. no_code_there image entries a none (c.1 a (let x = c.0 in omega (arith, x)) (omega arith)))
 

@@ -7,7 +7,7 @@ use Rattle.m88_base.specs.Image.{ProgramImage}
 use Rattle.m88_isa.specs.Address.{word_address}
 use Rattle.m88_sourcing.specs.Code.{HasInstruction, IsCode, IsReached, seeds_of}
 use Rattle.m88_sourcing.specs.Code.IsCode.{in_slot, reached}
-use Rattle.m88_sourcing.specs.Inside.Walks.{HasSlot, IsSound}
+use Rattle.m88_sourcing.specs.Inside.Walks.{HasSlot, IsWalkSound}
 use Rattle.m88_sourcing.specs.Inside.Words.{has_word}
 use Rattle.m88_sourcing.specs.declared.reaching.Walk.{Walk}
 use Rattle.m88_sourcing.specs.declared.words.Words.{Words}
@@ -38,7 +38,7 @@ slot_more slots index a Old Had Has Stands low before last =
 
 -- what a walk has found, with the slots, is the code
 pub all_code : (image : ProgramImage) (entries seeds : List ℕ) (w : Walk) (new : Words) → seeds ≡ seeds_of image entries
-    → IsSound image seeds w → ((a : ℕ) → IsReached image seeds a → IsTrue (has_word w.outline.code a))
+    → IsWalkSound image seeds w → ((a : ℕ) → IsReached image seeds a → IsTrue (has_word w.outline.code a))
     → ((a b : ℕ) → IsTrue (has_word w.outline.code a) → HasSlot image a b → Contains w.slots.items b)
     → ((a : ℕ) → IsTrue (has_word new a)
     ↔ (IsTrue (has_word w.outline.code a) ⊎ (Contains w.slots.items a × HasInstruction image a)))

@@ -14,8 +14,8 @@ use Rattle.m88_asm.specs.Objects.{labels_at, sets_at}
 use Rattle.m88_asm.specs.Units.{extents_in}
 use Rattle.m88_disasm.specs.Read.{unlabelled}
 use Rattle.m88_disasm.proofs.Laws.{AreBytes, AreInOrder, AreOnce, ArePieces, Data, HasName, IsWritten, Names, PartsData, Sets, a_set, data_behind, more_data, more_parts, names_in, names_of, no_set, stood, unit_of}
-use Rattle.m88_sourcing.specs.Insertion.{IsFoundAt}
-use Rattle.m88_sourcing.specs.Insertion.IsFoundAt.{carried, stays}
+use Rattle.m88_sourcing.specs.Insertion.{IsAgainAt}
+use Rattle.m88_sourcing.specs.Insertion.IsAgainAt.{carried, stays}
 use Rattle.m88_sourcing.specs.Labels.{label_of}
 use Rattle.m88_sourcing.specs.Source.{AreFar}
 use Rattle.m88_sourcing.proofs.Accepted.{AreRoomed, EndLow, all_in_front, are_roomed, next_begins, small_enough}
@@ -313,7 +313,7 @@ has_room image entries w m accepted = record {
 
 -- where an address of the piece is found again, and one beside it
 pub found_behind : (image : ProgramImage) (entries : List ℕ) (w : ℕ) (m : Parted image entries w) (a : ℕ)
-    → Among (w + 4) (length m.l.bytes_b) a → IsFoundAt image entries w a (a + 4)
+    → Among (w + 4) (length m.l.bytes_b) a → IsAgainAt image entries w a (a + 4)
 found_behind image entries w m a h =
     let from = h.0 in
     let below = h.1 in
@@ -322,17 +322,17 @@ found_behind image entries w m a h =
     carried (from, λ b up down. m.l.all_code b (omega (arith, holds, up)) (omega (arith, down, below, b_ends)))
 
 pub found_before : (image : ProgramImage) (entries : List ℕ) (w : ℕ) (m : Parted image entries w) (a : ℕ) → a < w + 4
-    → IsFoundAt image entries w a (a + 0)
+    → IsAgainAt image entries w a (a + 0)
 found_before image entries w m a low =
     let same : a ≡ a + 0 = omega arith in
-    subst (IsFoundAt image entries w a) same (stays (λ c. let x = c.0 in absurd (omega (arith, x, low))))
+    subst (IsAgainAt image entries w a) same (stays (λ c. let x = c.0 in absurd (omega (arith, x, low))))
 
 pub found_past : (image : ProgramImage) (entries : List ℕ) (w : ℕ) (m : Parted image entries w) (a : ℕ) → m.l.e ≤ a
-    → IsFoundAt image entries w a (a + 0)
+    → IsAgainAt image entries w a (a + 0)
 found_past image entries w m a high =
     let same : a ≡ a + 0 = omega arith in
     let b_ends = m.l.b_ends in
-    subst (IsFoundAt image entries w a) same
+    subst (IsAgainAt image entries w a) same
     (stays (λ c. m.l.ends (c.1 m.l.e (omega (arith, b_ends)) high)))
 
 -- and what its names stand for then
@@ -432,7 +432,7 @@ parted_as image entries w m is room =
 
     old_name : (name : List ℕ) (p : ℕ)
         → (((name ≡ codes "_start") × StartsAt image entries w p)
-        ⊎ ((q : ℕ) × (name ≡ label_of q) × (q < 2 ^ 32) × IsNameable image entries q × IsFoundAt image entries w q p))
+        ⊎ ((q : ℕ) × (name ≡ label_of q) × (q < 2 ^ 32) × IsNameable image entries q × IsAgainAt image entries w q p))
         → HasName name (names_in m.f.statements ++ names_in (parted m))
     old_name name p (inl x) = defined.defined name image.start (is.start, inl (x.0, refl))
     old_name name p (inr x) = defined.defined name x.0 (x.2, inr (x.1, x.3))

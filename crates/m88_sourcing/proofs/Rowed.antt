@@ -9,7 +9,7 @@ use Rattle.m88_parse.specs.Language.Tokens.{LineTokens}
 use Rattle.m88_parse.specs.Language.Units.{AreRows, IsUnit, no_row, only_main, row_of_statement, statement_line}
 use Rattle.m88_parse.specs.declared.unit.Statement.{Statement}
 use Rattle.m88_disasm.proofs.Laws.{Stated, are_printed, is_printed, unit_of}
-use Rattle.m88_sourcing.specs.Insertion.{IsLine}
+use Rattle.m88_sourcing.specs.Insertion.{IsOneLine}
 
 -- a line of a text
 inner_byte : (b : ℕ) (bs : List ℕ) → (b == 10) ≡ false → (b == 13 && begins_with_lf bs) ≡ false
@@ -28,13 +28,13 @@ no_lines : lines_of [] ≡ []
 unfolding lines_of
 no_lines = refl
 
-first_line : (line rest : List ℕ) → IsLine line → lines_of (line ++ 10 ∷ rest) ≡ line ∷ lines_of rest
+first_line : (line rest : List ℕ) → IsOneLine line → lines_of (line ++ 10 ∷ rest) ≡ line ∷ lines_of rest
 first_line [] rest h = ended_line rest
 first_line (b ∷ bs) rest h =
     inner_byte b (bs ++ 10 ∷ rest) (ne_eqb b 10 h.0) (by (b == 13) refl bs h.1 h.2)
     ∙ ap (on_first_line b) (first_line bs rest h.2)
   where
-    by : (t : Bool) → (b == 13) ≡ t → (cs : List ℕ) → ((b ≡ 13) → cs ≢ []) → IsLine cs
+    by : (t : Bool) → (b == 13) ≡ t → (cs : List ℕ) → ((b ≡ 13) → cs ≢ []) → IsOneLine cs
         → (t && begins_with_lf (cs ++ 10 ∷ rest)) ≡ false
     by false e cs h k = refl
     by true e [] h k = absurd (h (eqb-true b 13 e) refl)
@@ -44,7 +44,7 @@ both : (a b : Bool) → (a && b) ≡ true → (a ≡ true) × (b ≡ true)
 both true b e = (refl, e)
 both false b e = absurd cc
 
-printed_line : (line : List ℕ) → are_printed line ≡ true → IsLine line
+printed_line : (line : List ℕ) → are_printed line ≡ true → IsOneLine line
 printed_line [] h = tt
 printed_line (b ∷ bs) h =
     let k = both (is_printed b) (are_printed bs) h in
@@ -66,7 +66,7 @@ pub read_none : (number : ℕ) → AreRead number [] []
 read_none number = record { lines_are = no_lines; rows = no_row }
 
 pub read_one : (number : ℕ) (line : List ℕ) (lines : List (List ℕ)) (tokens : List Piece) (x : Statement)
-    (xs : List Statement) → IsLine line → LineTokens line tokens → IsStatement number tokens x
+    (xs : List Statement) → IsOneLine line → LineTokens line tokens → IsStatement number tokens x
     → AreRead (number + 1) lines xs → AreRead number (line ∷ lines) (x ∷ xs)
 read_one number line lines tokens x xs is_line are_tokens said rest = record {
   lines_are =

@@ -14,7 +14,7 @@ use Rattle.m88_asm.specs.Filled.{filled_bytes}
 use Rattle.m88_disasm.proofs.Laws.{Data, Means, Names, PartsData, more_data, more_parts, no_data, no_parts}
 use Rattle.m88_sourcing.specs.Code.{IsCode, HoldsInstruction}
 use Rattle.m88_sourcing.specs.Flow.{branch_target}
-use Rattle.m88_sourcing.specs.Insertion.{IsFoundAt}
+use Rattle.m88_sourcing.specs.Insertion.{IsAgainAt}
 use Rattle.m88_sourcing.proofs.Names.{named}
 use Rattle.m88_sourcing.proofs.Parted.{Parted, found_before, found_behind, found_past, parted}
 use Rattle.m88_sourcing.proofs.Places.{AllAt, HasAt, IsBranchAt, IsBranchTo, IsPlain, IsSimple, NoPlaceIs, WaitsFor, all_apart, anywhere, has_behind_data, has_behind_parts, has_in_front, place_behind, place_given}
@@ -172,14 +172,14 @@ in_last image entries w m Is never h =
 pub record IsByteAgain (image : ProgramImage) (entries : List ℕ) (w a p : ℕ) (x : Statement) : Type 0 where
   pub q : ℕ
   pub holds : HoldsByte image entries a q x
-  pub found : IsFoundAt image entries w a (p + (a - q))
+  pub found : IsAgainAt image entries w a (p + (a - q))
 
-byte_again : (image : ProgramImage) (entries : List ℕ) (w a n : ℕ) → IsFoundAt image entries w a (a + n) → (p : ℕ)
+byte_again : (image : ProgramImage) (entries : List ℕ) (w a n : ℕ) → IsAgainAt image entries w a (a + n) → (p : ℕ)
     (x : Statement) → Further n (HoldsByte image entries a) p x → IsByteAgain image entries w a p x
 byte_again image entries w a n found p x (q, is, holds) =
     let from = holds.from in
     let there : a + n ≡ p + (a - q) = omega (arith, is, from) in
-    record { q = q; holds = holds; found = subst (IsFoundAt image entries w a) there found }
+    record { q = q; holds = holds; found = subst (IsAgainAt image entries w a) there found }
 
 no_byte_of_place : (image : ProgramImage) (entries : List ℕ) (w a : ℕ) → NoPlaceIs (IsByteAgain image entries w a)
 no_byte_of_place image entries w a at n b is =
@@ -234,16 +234,16 @@ find_byte image entries w m a some =
 -- and each branch stands there
 pub record IsBranchAgain (image : ProgramImage) (entries : List ℕ) (w a p : ℕ) (x : Statement) : Type 0 where
   pub branch : IsBranchAt image entries a x
-  pub found : IsFoundAt image entries w a p
+  pub found : IsAgainAt image entries w a p
 
 branch_again : (image : ProgramImage) (entries : List ℕ) (w a n : ℕ) (i : Instr) (t : ℕ)
-    → IsFoundAt image entries w a (a + n) → (p : ℕ) (x : Statement)
+    → IsAgainAt image entries w a (a + n) → (p : ℕ) (x : Statement)
     → Further n (λ q y. IsBranchTo a i t q y × IsSimple image entries q y) p x → IsBranchAgain image entries w a p x
 branch_again image entries w a n i t found p x (q, is, ((same, waits), simple)) =
     let there : a + n ≡ p = omega (arith, is, same) in
     record {
       branch = by simple;
-      found = subst (IsFoundAt image entries w a) there found;
+      found = subst (IsAgainAt image entries w a) there found;
     }
   where
     no_plain : (f : Instr) → x.body ≡ body.Code f (Some (WaitsFor.name waits)) → IsPlain x.body → ⊥

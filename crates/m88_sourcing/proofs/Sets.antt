@@ -6,11 +6,11 @@ use Rattle.std.proofs.lemmas.Bool.{cases_eq}
 use Rattle.std.proofs.lemmas.Bool.Decides.{nat_tests}
 use Rattle.std.proofs.lemmas.Nat.Bits.{bit_at_set_other, bit_at_set_same}
 use Rattle.indexmap.specs.IndexMap.{get}
-use Rattle.m88_sourcing.specs.Inside.Words.{bits_at, has_word, is_set, row_of}
+use Rattle.m88_sourcing.specs.Inside.Words.{bits_at, has_word, is_set, word_row}
 use Rattle.m88_sourcing.specs.declared.words.Words.{Words}
 
 -- no two addresses have one bit
-one_bit : (a b : ℕ) → row_of a ≡ row_of b → a / 4 % 32 ≡ b / 4 % 32 → a ≡ b
+one_bit : (a b : ℕ) → word_row a ≡ word_row b → a / 4 % 32 ≡ b / 4 % 32 → a ≡ b
 one_bit a b row bit = omega (arith, row, bit)
 
 stays : (P : Type 0) (now was : Bool) → now ≡ was → (P → ⊥) → IsTrue now ↔ (IsTrue was ⊎ P)
@@ -23,23 +23,23 @@ stays P now was same none = (
 )
 
 pub one_more : (old new : Words) (at bits a : ℕ)
-    → ((q : ℕ) → get nat_eq new.rows q ≡ cond (nat_eq (row_of at) q) (Some bits) (get nat_eq old.rows q))
+    → ((q : ℕ) → get nat_eq new.rows q ≡ cond (nat_eq (word_row at) q) (Some bits) (get nat_eq old.rows q))
     → bits ≡ bit_or (bits_at old at) (1 * 2 ^ (at / 4 % 32) % 2 ^ 32)
     → IsTrue (has_word new a) ↔ (IsTrue (has_word old a) ⊎ (a ≡ at))
-one_more old new at bits a updates bits_are = by (cases_eq (row_of at) (row_of a)) (cases_eq (a / 4 % 32) (at / 4 % 32))
+one_more old new at bits a updates bits_are = by (cases_eq (word_row at) (word_row a)) (cases_eq (a / 4 % 32) (at / 4 % 32))
   where
-    row : bits_at new a ≡ unwrap_or (cond (nat_eq (row_of at) (row_of a)) (Some bits) (get nat_eq old.rows (row_of a))) 0
-    row = ap (λ (o : Option ℕ). unwrap_or o 0) (updates (row_of a))
+    row : bits_at new a ≡ unwrap_or (cond (nat_eq (word_row at) (word_row a)) (Some bits) (get nat_eq old.rows (word_row a))) 0
+    row = ap (λ (o : Option ℕ). unwrap_or o 0) (updates (word_row a))
 
-    same_row : row_of at ≡ row_of a → bits_at new a ≡ bit_or (bits_at old a) (1 * 2 ^ (at / 4 % 32) % 2 ^ 32)
+    same_row : word_row at ≡ word_row a → bits_at new a ≡ bit_or (bits_at old a) (1 * 2 ^ (at / 4 % 32) % 2 ^ 32)
     same_row e =
-        let test : nat_eq (row_of at) (row_of a) ≡ true = grind (arith, nat_tests) in
+        let test : nat_eq (word_row at) (word_row a) ≡ true = grind (arith, nat_tests) in
         row
-        ∙ ap (λ (t : Bool). unwrap_or (cond t (Some bits) (get nat_eq old.rows (row_of a))) 0) test
+        ∙ ap (λ (t : Bool). unwrap_or (cond t (Some bits) (get nat_eq old.rows (word_row a))) 0) test
         ∙ bits_are
         ∙ ap (λ (q : ℕ). bit_or (unwrap_or (get nat_eq old.rows q) 0) (1 * 2 ^ (at / 4 % 32) % 2 ^ 32)) e
 
-    by : (row_of at ≡ row_of a) ⊎ (row_of at ≢ row_of a) → (a / 4 % 32 ≡ at / 4 % 32) ⊎ (a / 4 % 32 ≢ at / 4 % 32)
+    by : (word_row at ≡ word_row a) ⊎ (word_row at ≢ word_row a) → (a / 4 % 32 ≡ at / 4 % 32) ⊎ (a / 4 % 32 ≢ at / 4 % 32)
         → IsTrue (has_word new a) ↔ (IsTrue (has_word old a) ⊎ (a ≡ at))
     by (inl e) (inl f) = (
       λ h. inr (one_bit a at (sym e) f),
@@ -53,8 +53,8 @@ one_more old new at bits a updates bits_are = by (cases_eq (row_of at) (row_of a
         ∙ ap (λ (n : ℕ). n == 1) (bit_at_set_other w32 (bits_at old a) (at / 4 % 32) (omega arith) (a / 4 % 32) ne))
         (λ same. ne (ap (λ (n : ℕ). n / 4 % 32) same))
     by (inr ne) _ =
-        let test : nat_eq (row_of at) (row_of a) ≡ false = grind (arith, nat_tests) in
+        let test : nat_eq (word_row at) (word_row a) ≡ false = grind (arith, nat_tests) in
         stays (a ≡ at) (has_word new a) (has_word old a)
         (ap (λ (n : ℕ). is_set n a)
-        (row ∙ ap (λ (t : Bool). unwrap_or (cond t (Some bits) (get nat_eq old.rows (row_of a))) 0) test))
-        (λ same. ne (sym (ap row_of same)))
+        (row ∙ ap (λ (t : Bool). unwrap_or (cond t (Some bits) (get nat_eq old.rows (word_row a))) 0) test))
+        (λ same. ne (sym (ap word_row same)))

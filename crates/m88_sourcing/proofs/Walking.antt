@@ -9,7 +9,7 @@ use Rattle.m88_sourcing.specs.Code.{HasInstruction, HoldsInstruction, IsReached,
 use Rattle.m88_sourcing.specs.Code.IsReached.{leads}
 use Rattle.m88_sourcing.specs.Flow.{branch_target, slot}
 use Rattle.m88_sourcing.specs.Inside.Members.{Notes}
-use Rattle.m88_sourcing.specs.Inside.Walks.{HasSlot, IsClosed, IsNamed, IsReachedIfCode, IsSound, Keeps, LeadsTo, NamesTargets}
+use Rattle.m88_sourcing.specs.Inside.Walks.{HasSlot, IsClosed, IsNamedBy, IsReachedIfCode, IsWalkSound, Keeps, MayLeadTo, NamesTargets}
 use Rattle.m88_sourcing.specs.Inside.Words.{has_word}
 use Rattle.m88_sourcing.specs.Labels.{BranchesTo}
 use Rattle.m88_sourcing.specs.declared.outline.Outline.{Outline}
@@ -40,8 +40,8 @@ with_one xs ys o b e = (λ h. by o (subst (λ (zs : List ℕ). Contains zs b) e 
 named_more : (image : ProgramImage) (old new : Outline) (at t : ℕ) (i : Instr) (Had Has Other : Type 0)
     → HoldsInstruction image at i
     → ((a : ℕ) → IsTrue (has_word new.code a) ↔ (IsTrue (has_word old.code a) ⊎ (a ≡ at)))
-    → Had ↔ (IsNamed image old t × Other) → Has ↔ (Had ⊎ ((branch_target at i ≡ Some t) × Other))
-    → Has ↔ (IsNamed image new t × Other)
+    → Had ↔ (IsNamedBy image old t × Other) → Has ↔ (Had ⊎ ((branch_target at i ≡ Some t) × Other))
+    → Has ↔ (IsNamedBy image new t × Other)
 named_more image old new at t i Had Has Other holds code before last = (
   λ has. elim (last.0 has) [
     | inl had ↦
@@ -76,7 +76,7 @@ pub names_same : (image : ProgramImage) (old : Outline) (code : Words)
     → ((a : ℕ) → IsTrue (has_word code a) ↔ IsTrue (has_word old.code a)) → NamesTargets image old
     → NamesTargets image (record { code = code; labels = old.labels; far = old.far })
 names_same image old code same names =
-    let named : (t : ℕ) → IsNamed image old t ↔ IsNamed image (record { code = code; labels = old.labels; far = old.far }) t =
+    let named : (t : ℕ) → IsNamedBy image old t ↔ IsNamedBy image (record { code = code; labels = old.labels; far = old.far }) t =
     λ t. (λ n. (n.0, (same n.0).1 n.1, n.2), λ n. (n.0, (same n.0).0 n.1, n.2)) in
     record {
       labels = λ a. (
@@ -120,8 +120,8 @@ again_closed image w o at Left here same names closed = record {
 }
 
 pub again_sound : (image : ProgramImage) (seeds : List ℕ) (w : Walk) (o : Outline)
-    → ((a : ℕ) → IsTrue (has_word o.code a) ↔ IsTrue (has_word w.outline.code a)) → IsSound image seeds w
-    → IsSound image seeds (record { outline = o; heads = w.heads; slots = w.slots })
+    → ((a : ℕ) → IsTrue (has_word o.code a) ↔ IsTrue (has_word w.outline.code a)) → IsWalkSound image seeds w
+    → IsWalkSound image seeds (record { outline = o; heads = w.heads; slots = w.slots })
 again_sound image seeds w o same sound = record {
   code = λ a there. sound.code a ((same a).0 there);
   heads = sound.heads;
@@ -167,7 +167,7 @@ pub more_closed : (image : ProgramImage) (old new : Walk) (at : ℕ) (next slot_
     → HoldsInstruction image at i → IsClosed image old (λ b. b ≡ at)
     → ((a : ℕ) → IsTrue (has_word new.outline.code a) ↔ (IsTrue (has_word old.outline.code a) ⊎ (a ≡ at)))
     → NamesTargets image new.outline → slot_there ≡ slot at i → new.slots.items ≡ old.slots.items ++ option_to_list slot_there
-    → ((b : ℕ) → LeadsTo image at b → Contains new.heads.items b ⊎ (next ≡ Some b))
+    → ((b : ℕ) → MayLeadTo image at b → Contains new.heads.items b ⊎ (next ≡ Some b))
     → ((more : List ℕ) × (new.heads.items ≡ old.heads.items ++ more))
     → IsClosed image new (λ b. next ≡ Some b)
 more_closed image old new at next slot_there i holds closed code names slot_is slots heads keeps = record {
@@ -202,16 +202,16 @@ more_closed image old new at next slot_there i holds closed code names slot_is s
 }
 
 -- an address to which a reached one leads
-led_to : (image : ProgramImage) (seeds : List ℕ) (a b : ℕ) → IsReached image seeds a → LeadsTo image a b → IsReachedIfCode image seeds b
+led_to : (image : ProgramImage) (seeds : List ℕ) (a b : ℕ) → IsReached image seeds a → MayLeadTo image a b → IsReachedIfCode image seeds b
 led_to image seeds a b from led stands = leads from (led.0, led.1, led.2, led.3, stands)
 
 pub more_sound : (image : ProgramImage) (seeds : List ℕ) (old new : Walk) (at : ℕ) (next slot_there : Option ℕ) (i : Instr)
-    → HoldsInstruction image at i → IsSound image seeds old → IsReachedIfCode image seeds at
+    → HoldsInstruction image at i → IsWalkSound image seeds old → IsReachedIfCode image seeds at
     → ((a : ℕ) → IsTrue (has_word new.outline.code a) ↔ (IsTrue (has_word old.outline.code a) ⊎ (a ≡ at)))
     → slot_there ≡ slot at i → new.slots.items ≡ old.slots.items ++ option_to_list slot_there
-    → ((b : ℕ) → Contains new.heads.items b → Contains old.heads.items b ⊎ LeadsTo image at b)
-    → ((b : ℕ) → next ≡ Some b → LeadsTo image at b)
-    → IsSound image seeds new × IfSome next (IsReachedIfCode image seeds)
+    → ((b : ℕ) → Contains new.heads.items b → Contains old.heads.items b ⊎ MayLeadTo image at b)
+    → ((b : ℕ) → next ≡ Some b → MayLeadTo image at b)
+    → IsWalkSound image seeds new × IfSome next (IsReachedIfCode image seeds)
 more_sound image seeds old new at next slot_there i holds sound reached code slot_is slots heads on = (
   record {
     code = λ a there.
@@ -263,7 +263,7 @@ ended_closed image w new next outline slots heads closed = record {
 
 pub ended_sound : (image : ProgramImage) (seeds : List ℕ) (w : Walk) (new : Walk) (next : Option ℕ) → new.outline ≡ w.outline
     → new.slots ≡ w.slots → new.heads.items ≡ w.heads.items ++ option_to_list next
-    → IsSound image seeds w × IfSome next (IsReachedIfCode image seeds) → IsSound image seeds new
+    → IsWalkSound image seeds w × IfSome next (IsReachedIfCode image seeds) → IsWalkSound image seeds new
 ended_sound image seeds w new next outline slots heads (sound, on) = record {
   code = λ a there. sound.code a (subst (λ (o : Outline). IsTrue (has_word o.code a)) outline there);
   heads = λ a head.

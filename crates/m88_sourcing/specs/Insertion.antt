@@ -18,40 +18,40 @@ use Rattle.m88_sourcing.specs.Flow.{branch_target}
 use Rattle.m88_sourcing.specs.Source.{IsSourceWith}
 use Rattle.m88_sourcing.specs.Targets.{counting}
 
--- an address behind the word of code at w, with nothing but code from there to it: behind it in its piece
+-- an address behind the word of code at w in its piece: from w up to it is nothing but code
 abbrev pub IsCarriedBy : ProgramImage → List ℕ → ℕ → ℕ → Type 0
 IsCarriedBy image entries w a = (w + 4 ≤ a) × ((b : ℕ) → w ≤ b → b ≤ a → InCode image entries b)
 
 -- where an address is found again: four bytes further on behind w in its piece, else where it was
-pub data IsFoundAt (image : ProgramImage) (entries : List ℕ) (w : ℕ) : ℕ → ℕ → Type 0 where
-  carried : {a : ℕ} → IsCarriedBy image entries w a → IsFoundAt image entries w a (a + 4)
-  stays : {a : ℕ} → ¬ IsCarriedBy image entries w a → IsFoundAt image entries w a a
+pub data IsAgainAt (image : ProgramImage) (entries : List ℕ) (w : ℕ) : ℕ → ℕ → Type 0 where
+  carried : {a : ℕ} → IsCarriedBy image entries w a → IsAgainAt image entries w a (a + 4)
+  stays : {a : ℕ} → ¬ IsCarriedBy image entries w a → IsAgainAt image entries w a a
 
 -- both have no target, or the second's is where the first's is found again
 abbrev pub LeadsAgain : ProgramImage → List ℕ → ℕ → Option ℕ → Option ℕ → Type 0
 LeadsAgain image entries w None t = t ≡ None
 LeadsAgain image entries w (Some s) None = ⊥
-LeadsAgain image entries w (Some s) (Some t) = IsFoundAt image entries w s t
+LeadsAgain image entries w (Some s) (Some t) = IsAgainAt image entries w s t
 
--- an instruction that is code is found again, and led to where it was led to
+-- an instruction that is code is found again, and its target is where the old one is found again
 pub record IsFoundAgain (image : ProgramImage) (entries : List ℕ) (w : ℕ) (byte : ℕ → Option ℕ) (a : ℕ) (i : Instr)
     : Type 0 where
   pub at : ℕ
   pub words : ℤ
-  pub found : IsFoundAt image entries w a at
+  pub found : IsAgainAt image entries w a at
   pub stands : HasWordOf byte at (counting words i)
   pub leads : LeadsAgain image entries w (branch_target a i) (branch_target at (counting words i))
 
 -- one line: no line feed is in it, and no carriage return at its end
-abbrev pub IsLine : List ℕ → Type 0
-IsLine [] = Unit {0}
-IsLine (b ∷ bs) = (b ≢ line_feed) × (b ≡ carriage_return → bs ≢ []) × IsLine bs
+abbrev pub IsOneLine : List ℕ → Type 0
+IsOneLine [] = Unit {0}
+IsOneLine (b ∷ bs) = (b ≢ line_feed) × (b ≡ carriage_return → bs ≢ []) × IsOneLine bs
 
--- the source with one more statement, of four bytes wherever it stands and without a label, in the line behind that of
--- the word of code at w
+-- the source with one more statement in the line behind that of the word of code at w: it has four bytes wherever it
+-- stands, and no label
 pub record IsInserted (image : ProgramImage) (entries : List ℕ) (w : ℕ) (longer : List ℕ) : Type 0 where
   pub line : List ℕ
-  pub is_line : IsLine line
+  pub is_line : IsOneLine line
   pub number : ℕ
   pub tokens : List Piece
   pub statement : Statement
@@ -66,7 +66,7 @@ pub record MovesCodeAlone (image : ProgramImage) (entries : List ℕ) (w : ℕ) 
   pub stays : (a : ℕ) → IsSome (byte_at image a) → ¬ InCode image entries a → unit_byte unit a ≡ byte_at image a
   pub found : (a : ℕ) (i : Instr) → IsCode image entries a → HoldsInstruction image a i
       → IsFoundAgain image entries w (unit_byte unit) a i
-  pub start : IsCode image entries image.start → IsFoundAt image entries w image.start (unit_start unit)
+  pub start : IsCode image entries image.start → IsAgainAt image entries w image.start (unit_start unit)
 
 -- so it is wherever such a longer source is accepted
 abbrev pub KeepsItsBranches : ProgramImage → List ℕ → Type 0

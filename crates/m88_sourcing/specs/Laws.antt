@@ -20,7 +20,8 @@ EachNamesItsTargets =
     (image : ProgramImage) (entries text : List ℕ) (unit : Source) → IsImage image → IsSource image entries text
     → IsUnit text unit → NamesItsTargets image entries unit
 
--- with one more statement behind a word of code, every branch of it leads to where it led
+-- with one more statement behind a word of code nothing but the code behind it moves, and every branch leads to where
+-- it led
 abbrev pub EachKeepsItsBranches : Type 0
 EachKeepsItsBranches =
     (image : ProgramImage) (entries : List ℕ) → IsImage image → KeepsItsBranches image entries

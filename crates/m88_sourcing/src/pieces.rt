@@ -111,7 +111,8 @@ fn push_piece(
     requires fits { at + length bytes.now ≤ 2 ^ 32 }
     requires end { byte_at image.now (at + length bytes.now) ≡ None }
     requires whole { IsTrue (among_words (has_word outline.now.code) at) → at % 4 ≡ 0 }
-    ensures lines { IfOk result (λ n. (entries : List ℕ) → OutlinesImage image.now entries outline.now
+    ensures lines { IfOk result (λ n. (entries : List ℕ)
+        → OutlinesImage image.now entries outline.now
         → FrontAppended (ArePieceLines (λ _. []) image.now entries at bytes.now)
         (ArePieceLines (λ _. []) image.now entries (at + n) (drop n bytes.now))
         text.old.items text.new.items) }

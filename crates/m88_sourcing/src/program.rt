@@ -1,5 +1,5 @@
 //! The top call.
-ghost use Rattle.std.specs.Prelude.{[], ◌≡◌, ◌≢◌, ◌↔◌, ◌+◌, ℕ, IfErr, IfOk, List, Option, Some, length};
+ghost use Rattle.std.specs.Prelude.{[], ◌≡◌, ◌↔◌, ℕ, IfErr, IfOk, List, Option, Some};
 ghost use Rattle.m88_base.specs.Causes.{Rose};
 ghost use Rattle.m88_base.specs.Filter.{IsInputLeft, ReadsFor, WritesFor, WritesPart, WritesText};
 ghost use Rattle.m88_base.specs.OneVerdict.{HasOneFaultUnless};
@@ -36,8 +36,8 @@ pub fn m88source<S: Source, K: Sink>(
     ensures unread { ((request : Asked) → ¬ Asks (words_of_call words.now) request)
         → source.new ≡ source.old }
 
-    // Whatever the answer is: the source is read by few calls, a source or a sink is blamed only for what it did,
-    // no failure is passed over, and without a text nothing is written.
+    // Whatever the answer is: at most two calls more are made of the source than an input may have bytes. A source
+    // or a sink is blamed only for what it did, and no failure is passed over. Without a text nothing is written.
     ensures reading { ReadsFor S.left S.calls S.faults source.old source.new result }
     ensures writing { WritesFor K.faults sink.old sink.new result }
 
@@ -80,8 +80,8 @@ pub fn m88source<S: Source, K: Sink>(
         → Sources request bytes b → a ≡ b }
 
     // Of every source: `build` makes the image of it again, and every branch that is code names a label or a
-    // `.set` that stands for its target. With one more statement of four bytes behind a word of code, where it is
-    // accepted, what is no code stays and every branch leads to where it led.
+    // `.set` that stands for its target. One more statement of four bytes, without a label, may stand behind a
+    // word of code: where that is accepted, what is no code stays and every branch leads to where it led.
     ensures builds { EachBuildsBack }
     ensures names { EachNamesItsTargets }
     ensures inserts { EachKeepsItsBranches }

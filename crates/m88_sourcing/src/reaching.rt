@@ -3,7 +3,7 @@ ghost use Rattle.std.specs.Prelude.{◌≡◌, ◌⊎◌, ◌↔◌, ◌++◌, �
 ghost use Rattle.std.specs.Option.{option_to_list};
 ghost use Rattle.m88_sourcing.specs.Code.{HasInstruction, HoldsInstruction, IsCode, IsReached, seeds_of};
 ghost use Rattle.m88_sourcing.specs.Inside.Members.{OutlinesImage};
-ghost use Rattle.m88_sourcing.specs.Inside.Walks.{HasSlot, IsClosed, IsReachedIfCode, IsSound, Keeps, LeadsTo, NamesTargets};
+ghost use Rattle.m88_sourcing.specs.Inside.Walks.{HasSlot, IsClosed, IsReachedIfCode, IsWalkSound, Keeps, MayLeadTo, NamesTargets};
 ghost use Rattle.m88_sourcing.specs.Inside.Words.{has_word};
 
 use crate::flow::{branch_target, goes_on_to, slot};
@@ -44,11 +44,11 @@ fn lead(
     instr: &Instr,
 ) -> Result<Option<u32>, AllocError>
     requires { HoldsInstruction image.now at instr.now }
-    ensures has { IfOk result (λ next. (b : ℕ) → LeadsTo image.now at b
+    ensures has { IfOk result (λ next. (b : ℕ) → MayLeadTo image.now at b
         → Contains heads.new.items b ⊎ (next ≡ Some b)) }
     ensures only { OnOk result ((b : ℕ) → Contains heads.new.items b
-        → Contains heads.old.items b ⊎ LeadsTo image.now at b) }
-    ensures next { IfOk result (λ next. (b : ℕ) → next ≡ Some b → LeadsTo image.now at b) }
+        → Contains heads.old.items b ⊎ MayLeadTo image.now at b) }
+    ensures next { IfOk result (λ next. (b : ℕ) → next ≡ Some b → MayLeadTo image.now at b) }
     ensures keeps { OnOk result ((more : List ℕ) × (heads.new.items ≡ heads.old.items ++ more)) }
 {
     if is_exit(image, at, instr) {
@@ -58,14 +58,14 @@ fn lead(
     Ok(goes_on_to(at, instr))
 }
 
-/// Notes the word at an address with its slot and its target, where an instruction stands there and wasn't noted yet, and
-/// answers where the program goes on.
+/// Notes the word at an address with its slot and its target, where an instruction stands there that wasn't noted yet.
+/// Answers where the program goes on.
 fn step(walk: &mut Walk, image: &Image, at: u32) -> Result<Option<u32>, AllocError>
     requires { IsClosed image.now walk.old (λ b. b ≡ at) }
     ensures closed { IfOk result (λ next. IsClosed image.now walk.new (λ b. next ≡ Some b)) }
-    ensures sound { IfOk result (λ next. (seeds : List ℕ) → IsSound image.now seeds walk.old
+    ensures sound { IfOk result (λ next. (seeds : List ℕ) → IsWalkSound image.now seeds walk.old
         → IsReachedIfCode image.now seeds at
-        → IsSound image.now seeds walk.new × IfSome next (IsReachedIfCode image.now seeds)) }
+        → IsWalkSound image.now seeds walk.new × IfSome next (IsReachedIfCode image.now seeds)) }
     ensures keeps { OnOk result (Keeps walk.old walk.new) }
     ensures found { OnOk result (HasInstruction image.now at
         → IsTrue (has_word walk.new.outline.code at)) }
@@ -85,8 +85,8 @@ fn step(walk: &mut Walk, image: &Image, at: u32) -> Result<Option<u32>, AllocErr
 fn follow_way(walk: &mut Walk, image: &Image, head: u32) -> Result<(), AllocError>
     requires { IsClosed image.now walk.old (λ b. b ≡ head) }
     ensures closed { OnOk result (IsClosed image.now walk.new (λ _. ⊥)) }
-    ensures sound { OnOk result ((seeds : List ℕ) → IsSound image.now seeds walk.old
-        → IsReachedIfCode image.now seeds head → IsSound image.now seeds walk.new) }
+    ensures sound { OnOk result ((seeds : List ℕ) → IsWalkSound image.now seeds walk.old
+        → IsReachedIfCode image.now seeds head → IsWalkSound image.now seeds walk.new) }
     ensures keeps { OnOk result (Keeps walk.old walk.new) }
     ensures found { OnOk result (HasInstruction image.now head
         → IsTrue (has_word walk.new.outline.code head)) }
@@ -106,7 +106,7 @@ fn follow_way(walk: &mut Walk, image: &Image, head: u32) -> Result<(), AllocErro
 
 /// A walk along all ways of a program, where they begin at these addresses.
 fn follow(alloc: Global, image: &Image, seeds: Vec<u32>) -> Result<Walk, AllocError>
-    ensures sound { IfOk result (λ w. IsSound image.now seeds.items w) }
+    ensures sound { IfOk result (λ w. IsWalkSound image.now seeds.items w) }
     ensures all { IfOk result (λ w. (a : ℕ) → IsReached image.now seeds.items a
         → IsTrue (has_word w.outline.code a)) }
     ensures slots { IfOk result (λ w. (a b : ℕ) → IsTrue (has_word w.outline.code a)

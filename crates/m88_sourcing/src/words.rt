@@ -1,6 +1,6 @@
 //! Sets of addresses.
 ghost use Rattle.std.specs.Prelude.{◌≡◌, ◌⊎◌, ◌↔◌, ℕ, false, not, IfOk, IsTrue, OnOk};
-ghost use Rattle.m88_sourcing.specs.Inside.Words.{IsLooking, bits_at, has_word, is_set, row_of};
+ghost use Rattle.m88_sourcing.specs.Inside.Words.{IsLooking, bits_at, has_word, is_set, word_row};
 
 use indexmap::IndexMap;
 use std::alloc::{AllocError, Global};
@@ -13,7 +13,7 @@ pub(crate) struct Words {
 
 /// The number of the row of an address.
 fn row_of(at: u32) -> u32
-    ensures { result ≡ row_of at }
+    ensures { result ≡ word_row at }
 {
     at / 128 * 4 + at % 4
 }
@@ -80,6 +80,7 @@ pub(crate) struct Looking<'a> {
 }
 
 impl<'a> Looking<'a> {
+    /// A look at a set, which keeps the row of address 0 first.
     pub fn new(words: &'a Words) -> Looking<'a>
         ensures looking { IsLooking result }
         ensures words { result.words.now ≡ words.now }

@@ -5,13 +5,13 @@ use Rattle.m88_link.specs.declared.object.Symbol.{Symbol}
 use Rattle.m88_link.specs.Symbols.{Repetition, repetition, symbol_of}
 
 -- a symbol that is global or not
-abbrev pub marked : Bool → Symbol → Symbol
-marked global s = record s { global = global }
+abbrev pub with_global : Bool → Symbol → Symbol
+with_global global s = record s { global = global }
 
 -- symbols of which the first of a name is marked as not global
 abbrev pub withdrawn : List ℕ → List Symbol → List Symbol
 withdrawn name [] = []
-withdrawn name (s ∷ ss) = if bytes_eq name s.name then marked false s ∷ ss else s ∷ withdrawn name ss
+withdrawn name (s ∷ ss) = if bytes_eq name s.name then with_global false s ∷ ss else s ∷ withdrawn name ss
 
 -- a table with one symbol more
 abbrev pub taken_one : List Symbol → Symbol → List Symbol

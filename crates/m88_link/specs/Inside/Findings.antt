@@ -10,8 +10,8 @@ abbrev pub IsEnded : Bool → Option LinkFault → Type 0
 IsEnded goes_on fault = goes_on ≡ false → fault ≡ None
 
 -- linking goes on behind the fault if there is one, or ends at it
-abbrev pub EndsAt : {A : Type 0} → Bool → Option LinkFault → Type 0 → Result A LinkFault → Type 0
-EndsAt goes_on fault Goes result =
+abbrev pub EndsAtFault : {A : Type 0} → Bool → Option LinkFault → Type 0 → Result A LinkFault → Type 0
+EndsAtFault goes_on fault Goes result =
     MatchResult result
     (λ _. Goes × IsEnded goes_on fault)
     (λ e. (e ≡ memory_fault) ⊎ ((goes_on ≡ false) × (fault ≡ Some e)))

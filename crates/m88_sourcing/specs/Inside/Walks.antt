@@ -12,28 +12,28 @@ use Rattle.m88_sourcing.specs.declared.outline.Outline.{Outline}
 use Rattle.m88_sourcing.specs.declared.reaching.Walk.{Walk}
 
 -- one of the words of code that were found branches to an address
-abbrev pub IsNamed : ProgramImage → Outline → ℕ → Type 0
-IsNamed image o t = (from : ℕ) × IsTrue (has_word o.code from) × BranchesTo image from t
+abbrev pub IsNamedBy : ProgramImage → Outline → ℕ → Type 0
+IsNamedBy image o t = (from : ℕ) × IsTrue (has_word o.code from) × BranchesTo image from t
 
 -- the labels and the far targets that were found are the targets of the words of code that were
 pub record NamesTargets (image : ProgramImage) (o : Outline) : Type 0 where
-  pub labels : (a : ℕ) → IsTrue (has_word o.labels a) ↔ (IsNamed image o a × IsSome (byte_at image a))
-  pub far : (a : ℕ) → IsTrue (has nat_cmp o.far a) ↔ (IsNamed image o a × (byte_at image a ≡ None))
+  pub labels : (a : ℕ) → IsTrue (has_word o.labels a) ↔ (IsNamedBy image o a × IsSome (byte_at image a))
+  pub far : (a : ℕ) → IsTrue (has nat_cmp o.far a) ↔ (IsNamedBy image o a × (byte_at image a ≡ None))
 
 -- the instruction at an address has its delay slot at another, where one may stand or not
 abbrev pub HasSlot : ProgramImage → ℕ → ℕ → Type 0
 HasSlot image a b = (i : Instr) × HoldsInstruction image a i × (slot a i ≡ Some b)
 
 -- the instruction at an address, which doesn't end the program, leads to another, where one may stand or not
-abbrev pub LeadsTo : ProgramImage → ℕ → ℕ → Type 0
-LeadsTo image a b = (i : Instr) × HoldsInstruction image a i × ¬ IsExit image a × GoesTo a i b
+abbrev pub MayLeadTo : ProgramImage → ℕ → ℕ → Type 0
+MayLeadTo image a b = (i : Instr) × HoldsInstruction image a i × ¬ IsExit image a × GoesTo a i b
 
 -- an address is reached, where an instruction stands there
 abbrev pub IsReachedIfCode : ProgramImage → List ℕ → ℕ → Type 0
 IsReachedIfCode image seeds a = HasInstruction image a → IsReached image seeds a
 
 -- what a walk has found is reached from these addresses
-pub record IsSound (image : ProgramImage) (seeds : List ℕ) (w : Walk) : Type 0 where
+pub record IsWalkSound (image : ProgramImage) (seeds : List ℕ) (w : Walk) : Type 0 where
   pub code : (a : ℕ) → IsTrue (has_word w.outline.code a) → IsReached image seeds a
   pub heads : (a : ℕ) → Contains w.heads.items a → IsReachedIfCode image seeds a
   pub slots : (b : ℕ) → Contains w.slots.items b → (a : ℕ) × IsReached image seeds a × HasSlot image a b

@@ -6,12 +6,12 @@ use Rattle.m88_sourcing.specs.declared.words.Looking.{Looking}
 use Rattle.m88_sourcing.specs.declared.words.Words.{Words}
 
 -- the number of the row of an address: 32 addresses that are 4 bytes apart share one
-abbrev pub row_of : ℕ → ℕ
-row_of a = a / 128 * 4 + a % 4
+abbrev pub word_row : ℕ → ℕ
+word_row a = a / 128 * 4 + a % 4
 
 -- the bits of the row of an address
 abbrev pub bits_at : Words → ℕ → ℕ
-bits_at words a = unwrap_or (get nat_eq words.rows (row_of a)) 0
+bits_at words a = unwrap_or (get nat_eq words.rows (word_row a)) 0
 
 -- the bit of an address is set, in the bits of its row
 abbrev pub is_set : ℕ → ℕ → Bool
@@ -23,4 +23,4 @@ has_word words a = is_set (bits_at words a) a
 
 -- the bits that are kept are those of the row that is named
 pub record IsLooking (l : Looking) : Type 0 where
-  pub bits : (a : ℕ) → row_of a ≡ l.row → l.bits ≡ bits_at l.words.now a
+  pub bits : (a : ℕ) → word_row a ≡ l.row → l.bits ≡ bits_at l.words.now a

@@ -3,7 +3,7 @@ use Rattle.std.proofs.Common.{◌⊎◌, ℕ, IsTrue, List, map, subst, take_all
 use Rattle.std.specs.Prelude.{◌↔◌, Contains, IsSome}
 use Rattle.m88_base.specs.Image.{byte_at}
 use Rattle.m88_isa.specs.Address.{word_address}
-use Rattle.m88_sourcing.specs.Inside.Walks.{IsNamed}
+use Rattle.m88_sourcing.specs.Inside.Walks.{IsNamedBy}
 use Rattle.m88_sourcing.specs.Inside.Words.{has_word}
 use Rattle.m88_sourcing.specs.Labels.{IsTarget}
 use Rattle.m88_sourcing.proofs.Outlining.{entry_more, no_entry, with_target}
@@ -13,7 +13,7 @@ pub loop-entry-init : goal.loop-entry-init
 loop-entry-init c =
     let image = c.args.image.now in
     let code = c.in_ok-outline.ensures.code in
-    let named : (a : ℕ) → IsNamed image c.in_ok-outline.outline a ↔ IsTarget image c.args.entries.now a =
+    let named : (a : ℕ) → IsNamedBy image c.in_ok-outline.outline a ↔ IsTarget image c.args.entries.now a =
     λ a. (λ n. (n.0, (code n.0).0 n.1, n.2), λ t. (t.0, (code t.0).1 t.1, t.2)) in
     record {
       code = code;
