@@ -20,7 +20,8 @@ same_bytes a b first second same =
 word_below : (i : Instr) (v : ℕ) → IsWord i v → v < 2 ^ 32
 word_below i v is = subst (λ (w : ℕ). w < 2 ^ 32) is.1 (word_small i is.0)
 
-pub same_instruction : (image : ProgramImage) (a : ℕ) (i j : Instr) → HoldsInstruction image a i → HoldsInstruction image a j → i ≡ j
+pub same_instruction : (image : ProgramImage) (a : ℕ) (i j : Instr) → HoldsInstruction image a i
+    → HoldsInstruction image a j → i ≡ j
 same_instruction image a i j s t =
     let v : ℕ = s.0.1.0 in
     let w : ℕ = t.0.1.0 in

@@ -56,7 +56,8 @@ all_code image entries seeds w new seeds_are sound all slots more a = (
     from_seeds : (b : ℕ) → IsReached image seeds b → IsReached image (seeds_of image entries) b
     from_seeds b r = subst (λ (xs : List ℕ). IsReached image xs b) seeds_are r
 
-    by : IsCode image entries a → IsTrue (has_word w.outline.code a) ⊎ (Contains w.slots.items a × HasInstruction image a)
+    by : IsCode image entries a → IsTrue (has_word w.outline.code a)
+        ⊎ (Contains w.slots.items a × HasInstruction image a)
     by (reached r) = inl (all a (subst (λ (xs : List ℕ). IsReached image xs a) (sym seeds_are) r))
     by (in_slot b r is) =
         let there = all b (subst (λ (xs : List ℕ). IsReached image xs b) (sym seeds_are) r) in

@@ -28,7 +28,8 @@ pub one_more : (old new : Words) (at bits a : ℕ)
     → IsTrue (has_word new a) ↔ (IsTrue (has_word old a) ⊎ (a ≡ at))
 one_more old new at bits a updates bits_are = by (cases_eq (word_row at) (word_row a)) (cases_eq (a / 4 % 32) (at / 4 % 32))
   where
-    row : bits_at new a ≡ unwrap_or (cond (nat_eq (word_row at) (word_row a)) (Some bits) (get nat_eq old.rows (word_row a))) 0
+    row : bits_at new a ≡ unwrap_or (cond (nat_eq (word_row at) (word_row a)) (Some bits)
+        (get nat_eq old.rows (word_row a))) 0
     row = ap (λ (o : Option ℕ). unwrap_or o 0) (updates (word_row a))
 
     same_row : word_row at ≡ word_row a → bits_at new a ≡ bit_or (bits_at old a) (1 * 2 ^ (at / 4 % 32) % 2 ^ 32)

@@ -18,8 +18,12 @@ use Rattle.m88_sourcing.specs.declared.words.Words.{Words}
 use Rattle.m88_sourcing.proofs.OneInstruction.{same_instruction}
 
 -- one address more, where there is one
-pub with_one : (xs ys : List ℕ) (o : Option ℕ) (b : ℕ) → ys ≡ xs ++ option_to_list o → Contains ys b ↔ (Contains xs b ⊎ (o ≡ Some b))
-with_one xs ys o b e = (λ h. by o (subst (λ (zs : List ℕ). Contains zs b) e h), λ h. subst (λ (zs : List ℕ). Contains zs b) (sym e) (back o h))
+pub with_one : (xs ys : List ℕ) (o : Option ℕ) (b : ℕ) → ys ≡ xs ++ option_to_list o → Contains ys b
+    ↔ (Contains xs b ⊎ (o ≡ Some b))
+with_one xs ys o b e = (
+  λ h. by o (subst (λ (zs : List ℕ). Contains zs b) e h),
+  λ h. subst (λ (zs : List ℕ). Contains zs b) (sym e) (back o h),
+)
   where
     by : (p : Option ℕ) → Contains (xs ++ option_to_list p) b → Contains xs b ⊎ (p ≡ Some b)
     by (Some a) h = elim (Contains-push_cases xs a b h) [
@@ -33,7 +37,8 @@ with_one xs ys o b e = (λ h. by o (subst (λ (zs : List ℕ). Contains zs b) e 
 
     back : (p : Option ℕ) → Contains xs b ⊎ (p ≡ Some b) → Contains (xs ++ option_to_list p) b
     back p (inl old) = Contains-append_left xs (option_to_list p) b old
-    back (Some a) (inr new) = let same : a ≡ b = cc in subst (λ (n : ℕ). Contains (xs ++ a ∷ []) n) same (Contains-push xs a)
+    back (Some a) (inr new) = let same : a ≡ b = cc in subst (λ (n : ℕ). Contains (xs ++ a ∷ []) n) same
+        (Contains-push xs a)
     back None (inr new) = absurd cc
 
 -- one word of code more, and its target
@@ -65,7 +70,8 @@ pub names_more : (image : ProgramImage) (old : Outline) (code : Words) (new : Ou
     → NamesTargets image new
 names_more image old code new at i holds names more notes =
     let now : (a : ℕ) → IsTrue (has_word new.code a) ↔ (IsTrue (has_word old.code a) ⊎ (a ≡ at)) =
-    λ a. subst (λ (w : Words). IsTrue (has_word w a) ↔ (IsTrue (has_word old.code a) ⊎ (a ≡ at))) (sym notes.code) (more a) in
+    λ a. subst (λ (w : Words). IsTrue (has_word w a) ↔ (IsTrue (has_word old.code a) ⊎ (a ≡ at))) (sym notes.code)
+    (more a) in
     record {
       labels = λ a. named_more image old new at a i _ _ _ holds now (names.labels a) (notes.labels a);
       far = λ a. named_more image old new at a i _ _ _ holds now (names.far a) (notes.far a);
@@ -76,7 +82,8 @@ pub names_same : (image : ProgramImage) (old : Outline) (code : Words)
     → ((a : ℕ) → IsTrue (has_word code a) ↔ IsTrue (has_word old.code a)) → NamesTargets image old
     → NamesTargets image (record { code = code; labels = old.labels; far = old.far })
 names_same image old code same names =
-    let named : (t : ℕ) → IsNamedBy image old t ↔ IsNamedBy image (record { code = code; labels = old.labels; far = old.far }) t =
+    let named : (t : ℕ) → IsNamedBy image old t ↔ IsNamedBy image
+    (record { code = code; labels = old.labels; far = old.far }) t =
     λ t. (λ n. (n.0, (same n.0).1 n.1, n.2), λ n. (n.0, (same n.0).0 n.1, n.2)) in
     record {
       labels = λ a. (
@@ -129,7 +136,8 @@ again_sound image seeds w o same sound = record {
 }
 
 -- what is left, said otherwise
-pub left_as : (image : ProgramImage) (w : Walk) (Left Other : ℕ → Type 0) → ((b : ℕ) → Left b → Other b) → IsClosed image w Left
+pub left_as : (image : ProgramImage) (w : Walk) (Left Other : ℕ → Type 0) → ((b : ℕ) → Left b → Other b)
+    → IsClosed image w Left
     → IsClosed image w Other
 left_as image w Left Other other closed = record {
   leads = λ a b there led.
@@ -146,7 +154,8 @@ left_as image w Left Other other closed = record {
 
 -- where nothing is left but what was found
 pub none_left : (image : ProgramImage) (w : Walk) (at : ℕ) (Left : ℕ → Type 0)
-    → (HasInstruction image at → IsTrue (has_word w.outline.code at)) → IsClosed image w (λ b. b ≡ at) → IsClosed image w Left
+    → (HasInstruction image at → IsTrue (has_word w.outline.code at)) → IsClosed image w (λ b. b ≡ at)
+    → IsClosed image w Left
 none_left image w at Left found closed = record {
   leads = λ a b there led.
       elim (closed.leads a b there led) [
@@ -166,7 +175,8 @@ none_left image w at Left found closed = record {
 pub more_closed : (image : ProgramImage) (old new : Walk) (at : ℕ) (next slot_there : Option ℕ) (i : Instr)
     → HoldsInstruction image at i → IsClosed image old (λ b. b ≡ at)
     → ((a : ℕ) → IsTrue (has_word new.outline.code a) ↔ (IsTrue (has_word old.outline.code a) ⊎ (a ≡ at)))
-    → NamesTargets image new.outline → slot_there ≡ slot at i → new.slots.items ≡ old.slots.items ++ option_to_list slot_there
+    → NamesTargets image new.outline → slot_there ≡ slot at i
+    → new.slots.items ≡ old.slots.items ++ option_to_list slot_there
     → ((b : ℕ) → MayLeadTo image at b → Contains new.heads.items b ⊎ (next ≡ Some b))
     → ((more : List ℕ) × (new.heads.items ≡ old.heads.items ++ more))
     → IsClosed image new (λ b. next ≡ Some b)
@@ -202,10 +212,12 @@ more_closed image old new at next slot_there i holds closed code names slot_is s
 }
 
 -- an address to which a reached one leads
-led_to : (image : ProgramImage) (seeds : List ℕ) (a b : ℕ) → IsReached image seeds a → MayLeadTo image a b → IsReachedIfCode image seeds b
+led_to : (image : ProgramImage) (seeds : List ℕ) (a b : ℕ) → IsReached image seeds a → MayLeadTo image a b
+    → IsReachedIfCode image seeds b
 led_to image seeds a b from led stands = leads from (led.0, led.1, led.2, led.3, stands)
 
-pub more_sound : (image : ProgramImage) (seeds : List ℕ) (old new : Walk) (at : ℕ) (next slot_there : Option ℕ) (i : Instr)
+pub more_sound : (image : ProgramImage) (seeds : List ℕ) (old new : Walk) (at : ℕ) (next slot_there : Option ℕ)
+    (i : Instr)
     → HoldsInstruction image at i → IsWalkSound image seeds old → IsReachedIfCode image seeds at
     → ((a : ℕ) → IsTrue (has_word new.outline.code a) ↔ (IsTrue (has_word old.outline.code a) ⊎ (a ≡ at)))
     → slot_there ≡ slot at i → new.slots.items ≡ old.slots.items ++ option_to_list slot_there
@@ -247,8 +259,10 @@ kept_then w0 w1 w2 first second = record {
 }
 
 -- a way that ends, or whose rest is a further one
-pub ended_closed : (image : ProgramImage) (w : Walk) (new : Walk) (next : Option ℕ) → new.outline ≡ w.outline → new.slots ≡ w.slots
-    → new.heads.items ≡ w.heads.items ++ option_to_list next → IsClosed image w (λ b. next ≡ Some b) → IsClosed image new (λ _. ⊥)
+pub ended_closed : (image : ProgramImage) (w : Walk) (new : Walk) (next : Option ℕ) → new.outline ≡ w.outline
+    → new.slots ≡ w.slots
+    → new.heads.items ≡ w.heads.items ++ option_to_list next → IsClosed image w (λ b. next ≡ Some b)
+    → IsClosed image new (λ _. ⊥)
 ended_closed image w new next outline slots heads closed = record {
   leads = λ a b there led.
       elim (closed.leads a b (subst (λ (o : Outline). IsTrue (has_word o.code a)) outline there) led) [
@@ -261,7 +275,8 @@ ended_closed image w new next outline slots heads closed = record {
   names = subst (λ (o : Outline). NamesTargets image o) (sym outline) closed.names;
 }
 
-pub ended_sound : (image : ProgramImage) (seeds : List ℕ) (w : Walk) (new : Walk) (next : Option ℕ) → new.outline ≡ w.outline
+pub ended_sound : (image : ProgramImage) (seeds : List ℕ) (w : Walk) (new : Walk) (next : Option ℕ)
+    → new.outline ≡ w.outline
     → new.slots ≡ w.slots → new.heads.items ≡ w.heads.items ++ option_to_list next
     → IsWalkSound image seeds w × IfSome next (IsReachedIfCode image seeds) → IsWalkSound image seeds new
 ended_sound image seeds w new next outline slots heads (sound, on) = record {

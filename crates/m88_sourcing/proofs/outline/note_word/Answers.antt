@@ -30,5 +30,6 @@ returns-clause-code c = λ a.
 
 pub returns-clause-named : goal.returns-clause-named
 returns-clause-named c =
-    names_more c.args.image.now c.args.outline.now c.insert.new.self c.note_branch.new.outline c.args.at c.args.instr.now
+    names_more c.args.image.now c.args.outline.now c.insert.new.self c.note_branch.new.outline c.args.at
+    c.args.instr.now
     c.requires.holds c.requires.named c.in_ok-insert.ensures.has c.in_ok-note_branch.ensures

@@ -12,5 +12,6 @@ invariant-loop-index l = record {
   words : l.labels.words.now ≡ l.outline.labels;
   text : (entries : List ℕ) → OutlinesImage l.image entries l.outline
       → FrontAppended (AreCodeLines (λ _. []) l.image entries l.at l.words)
-      (AreCodeLines (λ _. []) l.image entries (l.at + 4 * l.index) (l.words - l.index)) l.initial.text.items l.text.items;
+      (AreCodeLines (λ _. []) l.image entries (l.at + 4 * l.index) (l.words - l.index)) l.initial.text.items
+      l.text.items;
 }

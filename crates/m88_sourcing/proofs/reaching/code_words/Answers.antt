@@ -8,10 +8,12 @@ use Rattle.m88_sourcing.proofs.reaching.code_words.Goals as goal
 
 pub returns-clause-code : goal.returns-clause-code
 returns-clause-code c =
-    all_code c.args.image.now c.args.entries.now c.in_ok-seeds.seeds.items c.in_ok-outline.field-0 c.note_slots.new.outline.code
+    all_code c.args.image.now c.args.entries.now c.in_ok-seeds.seeds.items c.in_ok-outline.field-0
+    c.note_slots.new.outline.code
     c.in_ok-seeds.ensures c.in_ok-outline.ensures.sound c.in_ok-outline.ensures.all c.in_ok-outline.ensures.slots
     (λ a.
     subst
     (λ (slots : List ℕ). IsTrue (has_word c.note_slots.new.outline.code a)
-    ↔ (IsTrue (has_word c.in_ok-outline.field-0.outline.code a) ⊎ (Contains slots a × HasInstruction c.args.image.now a)))
+    ↔ (IsTrue (has_word c.in_ok-outline.field-0.outline.code a)
+    ⊎ (Contains slots a × HasInstruction c.args.image.now a)))
     c.deref.ensures.value (c.in_ok-note_slots.ensures.code a))

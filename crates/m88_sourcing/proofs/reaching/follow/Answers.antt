@@ -57,12 +57,14 @@ loop-next-preserved c =
       done = λ k b below there stands.
           let within : k < length heads = (let first = low in omega (arith, first, below)) in
           let was : slice_get heads k ≡ Some b =
-          sym (stands_still heads keeps.more k within) ∙ ap (λ (xs : List ℕ). slice_get xs k) (sym keeps.heads) ∙ there in
+          sym (stands_still heads keeps.more k within) ∙ ap (λ (xs : List ℕ). slice_get xs k) (sym keeps.heads)
+          ∙ there in
           elim (cases_lt k c.loop-next.next) [
             | inl before ↦ keeps.code b (c.loop-next.invariant.done k b before was stands)
             | inr from ↦
                 let here : k ≡ c.loop-next.next = omega (arith, below, from) in
-                let now : slice_get heads c.loop-next.next ≡ Some b = ap (λ (n : ℕ). slice_get heads n) (sym here) ∙ was in
+                let now : slice_get heads c.loop-next.next ≡ Some b = ap (λ (n : ℕ). slice_get heads n) (sym here)
+                ∙ was in
                 let same : b ≡ head = cc in
                 subst (λ (n : ℕ). IsTrue (has_word c.follow_way.new.walk.outline.code n)) (sym same)
                 (c.in_ok-follow_way.ensures.found (subst (λ (n : ℕ). HasInstruction c.args.image.now n) same stands))

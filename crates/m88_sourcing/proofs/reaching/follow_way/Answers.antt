@@ -9,7 +9,8 @@ use Rattle.m88_sourcing.proofs.reaching.follow_way.Goals as goal
 
 pub returns-then-contains-clause-closed : goal.returns-then-contains-clause-closed
 returns-then-contains-clause-closed c =
-    none_left c.args.image.now c.args.walk.now c.args.head (λ _. ⊥) (λ _. sym c.contains.ensures ∙ c.if-contains.true) c.requires
+    none_left c.args.image.now c.args.walk.now c.args.head (λ _. ⊥) (λ _. sym c.contains.ensures ∙ c.if-contains.true)
+    c.requires
 
 pub returns-then-contains-clause-keeps : goal.returns-then-contains-clause-keeps
 returns-then-contains-clause-keeps c = record {
@@ -20,7 +21,8 @@ returns-then-contains-clause-keeps c = record {
 
 pub returns-in_default-clause-closed : goal.returns-in_default-clause-closed
 returns-in_default-clause-closed c =
-    left_as c.args.image.now c.loop.walk (λ b. c.loop.next ≡ Some b) (λ _. ⊥) (λ b e. absurd (c.in_default.not-Some b e))
+    left_as c.args.image.now c.loop.walk (λ b. c.loop.next ≡ Some b) (λ _. ⊥)
+    (λ b e. absurd (c.in_default.not-Some b e))
     c.loop.invariant.closed
 
 pub step-requires-in-loop : goal.step-requires-in-loop
@@ -35,7 +37,8 @@ loop-preserved c = record {
       let before = c.loop.invariant.sound seeds sound reached in
       c.in_ok-next-2.ensures.sound seeds before.0
       (subst (λ (o : Option ℕ). IfSome o (IsReachedIfCode c.args.image.now seeds)) c.in-Some.is before.1);
-  keeps = kept_then c.args.walk.now c.loop.walk c.step-in-loop.new.walk c.loop.invariant.keeps c.in_ok-next-2.ensures.keeps;
+  keeps = kept_then c.args.walk.now c.loop.walk c.step-in-loop.new.walk c.loop.invariant.keeps
+      c.in_ok-next-2.ensures.keeps;
   found = λ stands. c.in_ok-next-2.ensures.keeps.code c.args.head (c.loop.invariant.found stands);
 }
 
@@ -44,7 +47,8 @@ returns-clause-closed c =
     on_ok_weaker c.push_if.result
     (λ e.
     ended_closed c.args.image.now c.loop.walk
-    (record { outline = c.loop.walk.outline; heads = c.push_if.new.addresses; slots = c.loop.walk.slots }) c.loop.next refl refl
+    (record { outline = c.loop.walk.outline; heads = c.push_if.new.addresses; slots = c.loop.walk.slots }) c.loop.next
+    refl refl
     e c.loop.invariant.closed)
     c.push_if.ensures
 
@@ -53,7 +57,8 @@ returns-clause-sound c =
     on_ok_weaker c.push_if.result
     (λ e seeds sound reached.
     ended_sound c.args.image.now seeds c.loop.walk
-    (record { outline = c.loop.walk.outline; heads = c.push_if.new.addresses; slots = c.loop.walk.slots }) c.loop.next refl refl
+    (record { outline = c.loop.walk.outline; heads = c.push_if.new.addresses; slots = c.loop.walk.slots }) c.loop.next
+    refl refl
     e (c.loop.invariant.sound seeds sound reached))
     c.push_if.ensures
 

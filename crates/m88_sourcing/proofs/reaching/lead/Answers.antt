@@ -12,7 +12,8 @@ returns-then-is_exit-clause-has c = λ b led. absurd (led.2 (c.is_exit.ensures.0
 
 pub returns-clause-has : goal.returns-clause-has
 returns-clause-has c = λ b led.
-    let same : c.args.instr.now ≡ led.0 = same_instruction c.args.image.now c.args.at c.args.instr.now led.0 c.requires led.1 in
+    let same : c.args.instr.now ≡ led.0 = same_instruction c.args.image.now c.args.at c.args.instr.now led.0
+    c.requires led.1 in
     elim led.3 [
       | inl h ↦ inr (c.goes_on_to.ensures ∙ ap (λ (k : Instruction). goes_on_to c.args.at k) same ∙ h)
       | inr h ↦

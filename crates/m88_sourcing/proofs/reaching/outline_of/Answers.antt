@@ -40,6 +40,7 @@ returns c =
           (λ (entries : List ℕ). IsTrue (has_word c.loop-entry.outline.labels a)
           ↔ (IsSome (byte_at image a)
           × (IsTarget image c.args.entries.now a ⊎ Contains (map word_address entries) a)))
-          (take_all c.loop-entry.entry-index c.args.entries.now c.loop-entry-test.false) (c.loop-entry.invariant.labels a);
+          (take_all c.loop-entry.entry-index c.args.entries.now c.loop-entry-test.false)
+          (c.loop-entry.invariant.labels a);
       far = c.loop-entry.invariant.far;
     }

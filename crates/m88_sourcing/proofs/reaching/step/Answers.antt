@@ -5,7 +5,8 @@ use Rattle.m88_sourcing.proofs.reaching.step.Goals as goal
 
 pub returns-in_default-clause-closed : goal.returns-in_default-clause-closed
 returns-in_default-clause-closed c =
-    none_left c.args.image.now c.args.walk.now c.args.at _ (λ h. absurd (c.in_default.not-Some h.0 (c.standing.ensures.only h.0 h.1))) c.requires
+    none_left c.args.image.now c.args.walk.now c.args.at _
+    (λ h. absurd (c.in_default.not-Some h.0 (c.standing.ensures.only h.0 h.1))) c.requires
 
 pub returns-then-not-branch-clause-closed : goal.returns-then-not-branch-clause-closed
 returns-then-not-branch-clause-closed c =
@@ -34,7 +35,8 @@ returns-clause-closed c =
     more_closed c.args.image.now c.args.walk.now
     (record { outline = c.note_word.new.outline; heads = c.lead.new.heads; slots = c.push_if.new.addresses }) c.args.at
     c.in_ok-next.next c.slot.result c.in-Some.instr c.in-Some.ensures.some c.requires c.in_ok-note_word.ensures.code
-    c.in_ok-note_word.ensures.named c.slot.ensures c.in_ok-push_if.ensures c.in_ok-next.ensures.has c.in_ok-next.ensures.keeps
+    c.in_ok-note_word.ensures.named c.slot.ensures c.in_ok-push_if.ensures c.in_ok-next.ensures.has
+    c.in_ok-next.ensures.keeps
 
 pub returns-clause-sound : goal.returns-clause-sound
 returns-clause-sound c = λ seeds sound reached.

@@ -25,9 +25,11 @@ pub returns-clause-has : goal.returns-clause-has
 returns-clause-has c = λ a.
     let rows = c.args.self.now.rows in
     let bit : ℕ = 1 * 2 ^ (c.args.at / 4 % 32) % 2 ^ 32 in
-    let none : None ≡ get nat_eq rows c.row_of.result = ap option_copied_mut (sym c.in_default.is) ∙ c.get_mut.ensures.value in
+    let none : None ≡ get nat_eq rows c.row_of.result = ap option_copied_mut (sym c.in_default.is)
+    ∙ c.get_mut.ensures.value in
     let zero : bits_at c.args.self.now c.args.at ≡ 0 =
-    sym (ap (λ (o : Option ℕ). unwrap_or o 0) none ∙ ap (λ (k : ℕ). unwrap_or (get nat_eq rows k) 0) c.row_of.ensures) in
+    sym (ap (λ (o : Option ℕ). unwrap_or o 0) none ∙ ap (λ (k : ℕ). unwrap_or (get nat_eq rows k) 0) c.row_of.ensures)
+    in
     one_more c.args.self.now (record { rows = c.insert.new.self }) c.args.at bit a
     (λ q. c.in_ok-insert.ensures.updates.0 q
     ∙ ap (λ m. cond (nat_eq c.row_of-2.result q) (Some bit) (get nat_eq m q)) c.get_mut.follows.holds-at-none
