@@ -1,5 +1,5 @@
 //! The lines of the pieces of an image.
-ghost use Rattle.std.specs.Prelude.{◌≡◌, ◌⊎◌, ◌↔◌, ◌+◌, ◌*◌, ◌%◌, ◌<◌, ◌≤◌, ◌^◌, ℕ, suc, List, [], None, IfOk, IsTrue, OnOk, drop, length};
+ghost use Rattle.std.specs.Prelude.{◌≡◌, ◌⊎◌, ◌↔◌, ◌+◌, ◌*◌, ◌%◌, ◌<◌, ◌≤◌, ◌^◌, ℕ, suc, List, [], None, IfOk, IsTrue, OnOk, drop, length, slice_get};
 ghost use Rattle.m88_base.specs.Found.{IsPart};
 ghost use Rattle.m88_base.specs.Image.{IsImage, byte_at, parts};
 ghost use Rattle.m88_sourcing.specs.Code.{HasInstruction};
@@ -13,7 +13,7 @@ use crate::lines::{push_label_at, push_start_at};
 use crate::loose::push_loose;
 use crate::naming::push_instruction;
 use crate::outline::Outline;
-use crate::standing::standing;
+use crate::standing::instruction_in;
 use crate::words::{Looking, Words};
 use m88_base::Image;
 use m88_disasm::push_place;
@@ -52,14 +52,17 @@ fn piece_len(code: &Words, at: u32, bytes: &[u8]) -> usize
     len.min(bytes.len())
 }
 
-/// Appends the lines of the word of code at an address.
+/// Appends the lines of the word of code at an address, which has these bytes.
 fn push_code_word(
     text: &mut Vec<u8>,
     image: &Image,
     labels: &mut Looking,
     at: u32,
+    bytes: &[u8],
 ) -> Result<(), AllocError>
     requires stands { HasInstruction image.now at }
+    requires long { 4 ≤ length bytes.now }
+    requires there { (k : ℕ) → k < 4 → byte_at image.now (at + k) ≡ slice_get bytes.now k }
     requires looking { IsLooking labels.old }
     ensures lines { OnOk result ((entries : List ℕ) (n : ℕ)
         → ((a : ℕ) → IsTrue (has_word labels.old.words.now a) ↔ HasLabel image.now entries a)
@@ -70,7 +73,7 @@ fn push_code_word(
 {
     push_label_at(text, labels.contains(at), at)?;
     push_start_at(text, image.start(), at)?;
-    match standing(image, at) {
+    match instruction_in(bytes) {
         Some(instr) => push_instruction(text, at, &instr),
         None => unreachable!(),
     }
@@ -91,8 +94,10 @@ fn push_code(
         text.old.items text.new.items) }
 {
     let mut labels = Looking::new(&outline.labels);
+    let bytes = image.rest(at);
     for index in 0..words {
-        push_code_word(text, image, &mut labels, at + (4 * index) as u32)?;
+        let (_, rest) = bytes.split_at(4 * index);
+        push_code_word(text, image, &mut labels, at + (4 * index) as u32, rest)?;
     }
     Ok(())
 }

@@ -1,8 +1,9 @@
 //! The instructions that stand in an image.
-ghost use Rattle.std.specs.Prelude.{◌≡◌, ◌↔◌, Some, IfSome, IsTrue};
+ghost use Rattle.std.specs.Prelude.{◌≡◌, ◌↔◌, ◌+◌, ◌<◌, ◌≤◌, ℕ, Some, IfSome, IsTrue, length, slice_get};
 ghost use Rattle.std.specs.Option.{option_map};
 ghost use Rattle.std.specs.Int.{to_be_bytes, w32};
-ghost use Rattle.m88_base.specs.Image.{byte_at};
+ghost use Rattle.m88_base.specs.Image.{ProgramImage, byte_at};
+ghost use Rattle.m88_isa.specs.Instr.{IsValid};
 ghost use Rattle.m88_isa.specs.Machine.{four_bytes};
 ghost use Rattle.m88_isa.specs.declared.instr.Instr.{Instr as Instruction};
 ghost use Rattle.m88_sourcing.specs.Code.{IsExit, HoldsInstruction};
@@ -10,7 +11,7 @@ ghost use Rattle.m88_sourcing.specs.Code.{IsExit, HoldsInstruction};
 use crate::flow::{asks_for_end, calls_monitor};
 use byteorder::{BigEndian, ByteOrder};
 use m88_base::Image;
-use m88_codec::decode;
+use m88_codec::{decode, word_at};
 use m88_isa::Instr;
 
 /// The word at an address, where all four bytes are there.
@@ -51,5 +52,19 @@ pub(crate) fn is_exit(image: &Image, at: u32, instr: &Instr) -> bool
     match standing(image, at.wrapping_sub(4)) {
         Some(before) => asks_for_end(&before),
         None => false,
+    }
+}
+
+/// The instruction whose word some bytes begin with.
+pub(crate) fn instruction_in(bytes: &[u8]) -> Option<Instr>
+    requires { 4 ≤ length bytes.now }
+    ensures only { (image : ProgramImage) (at : ℕ) (i : Instruction)
+        → ((k : ℕ) → k < 4 → byte_at image (at + k) ≡ slice_get bytes.now k)
+        → HoldsInstruction image at i → result ≡ Some i }
+    ensures valid { IfSome result IsValid }
+{
+    match decode(word_at(bytes)) {
+        Ok(instr) => Some(instr),
+        Err(_) => None,
     }
 }
