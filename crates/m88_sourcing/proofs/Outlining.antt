@@ -7,7 +7,8 @@ use Rattle.m88_base.specs.Image.{ProgramImage}
 use Rattle.m88_isa.specs.Address.{word_address}
 use Rattle.m88_sourcing.specs.Code.{HasInstruction, IsCode, IsReached, seeds_of}
 use Rattle.m88_sourcing.specs.Code.IsCode.{in_slot, reached}
-use Rattle.m88_sourcing.specs.Inside.Walks.{HasSlot, IsWalkSound}
+use Rattle.m88_sourcing.specs.Code.IsReached.{leads}
+use Rattle.m88_sourcing.specs.Inside.Walks.{HasSlot, IsWalkSound, MayLeadTo}
 use Rattle.m88_sourcing.specs.Inside.Words.{has_word}
 use Rattle.m88_sourcing.specs.declared.reaching.Walk.{Walk}
 use Rattle.m88_sourcing.specs.declared.words.Words.{Words}
@@ -39,7 +40,8 @@ slot_more slots index a Old Had Has Stands low before last =
 -- what a walk has found, with the slots, is the code
 pub all_code : (image : ProgramImage) (entries seeds : List ℕ) (w : Walk) (new : Words) → seeds ≡ seeds_of image entries
     → IsWalkSound image seeds w → ((a : ℕ) → IsReached image seeds a → IsTrue (has_word w.outline.code a))
-    → ((a b : ℕ) → IsTrue (has_word w.outline.code a) → HasSlot image a b → Contains w.slots.items b)
+    → ((a b : ℕ) → IsTrue (has_word w.outline.code a) → HasSlot image a b
+    → Contains w.slots.items b ⊎ MayLeadTo image a b)
     → ((a : ℕ) → IsTrue (has_word new a)
     ↔ (IsTrue (has_word w.outline.code a) ⊎ (Contains w.slots.items a × HasInstruction image a)))
     → (a : ℕ) → IsTrue (has_word new a) ↔ IsCode image entries a
@@ -60,8 +62,11 @@ all_code image entries seeds w new seeds_are sound all slots more a = (
         ⊎ (Contains w.slots.items a × HasInstruction image a)
     by (reached r) = inl (all a (subst (λ (xs : List ℕ). IsReached image xs a) (sym seeds_are) r))
     by (in_slot b r is) =
-        let there = all b (subst (λ (xs : List ℕ). IsReached image xs b) (sym seeds_are) r) in
-        inr (slots b a there (is.0, is.1, is.2), is.3)
+        let from = subst (λ (xs : List ℕ). IsReached image xs b) (sym seeds_are) r in
+        elim (slots b a (all b from) (is.0, is.1, is.2)) [
+          | inl slot ↦ inr (slot, is.3)
+          | inr led ↦ inl (all a (leads from (led.0, led.1, led.2, led.3, is.3)))
+        ]
 
 -- where no entry was noted
 pub no_entry : (t : ℕ) (Has Named Target Other : Type 0) → Has ↔ (Named × Other) → Named ↔ Target

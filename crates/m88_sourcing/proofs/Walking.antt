@@ -171,16 +171,18 @@ none_left image w at Left found closed = record {
   names = closed.names;
 }
 
--- one word more, whose slot was noted, and whose target was or is left
+-- one word more, whose slot and whose target were noted or are left
 pub more_closed : (image : ProgramImage) (old new : Walk) (at : ℕ) (next slot_there : Option ℕ) (i : Instr)
     → HoldsInstruction image at i → IsClosed image old (λ b. b ≡ at)
     → ((a : ℕ) → IsTrue (has_word new.outline.code a) ↔ (IsTrue (has_word old.outline.code a) ⊎ (a ≡ at)))
     → NamesTargets image new.outline → slot_there ≡ slot at i
-    → new.slots.items ≡ old.slots.items ++ option_to_list slot_there
+    → ((b : ℕ) → Contains old.slots.items b → Contains new.slots.items b)
+    → ((b : ℕ) → slot_there ≡ Some b → Contains new.slots.items b ⊎ (next ≡ Some b))
+    → ((b : ℕ) → next ≡ Some b → MayLeadTo image at b)
     → ((b : ℕ) → MayLeadTo image at b → Contains new.heads.items b ⊎ (next ≡ Some b))
     → ((more : List ℕ) × (new.heads.items ≡ old.heads.items ++ more))
     → IsClosed image new (λ b. next ≡ Some b)
-more_closed image old new at next slot_there i holds closed code names slot_is slots heads keeps = record {
+more_closed image old new at next slot_there i holds closed code names slot_is stay slots on heads keeps = record {
   leads = λ a b there led.
       elim ((code a).0 there) [
         | inl was ↦ elim (closed.leads a b was led) [
@@ -196,18 +198,24 @@ more_closed image old new at next slot_there i holds closed code names slot_is s
             let here : IsReachedFrom image at b = subst (λ (n : ℕ). IsReachedFrom image n b) same led in
             elim (heads b (here.0, here.1, here.2, here.3)) [
               | inl head ↦ inr (inl head)
-              | inr on ↦ inr (inr on)
+              | inr further ↦ inr (inr further)
             ]
       ];
   slots = λ a b there is_slot.
-      (with_one old.slots.items new.slots.items slot_there b slots).1
-      (elim ((code a).0 there) [
-        | inl was ↦ inl (closed.slots a b was is_slot)
+      elim ((code a).0 there) [
+        | inl was ↦ elim (closed.slots a b was is_slot) [
+          | inl old_slot ↦ inl (stay b old_slot)
+          | inr led ↦ inr led
+        ]
         | inr same ↦
             let here : HasSlot image at b = subst (λ (n : ℕ). HasSlot image n b) same is_slot in
             let one : i ≡ here.0 = same_instruction image at i here.0 holds here.1 in
-            inr (slot_is ∙ ap (λ (k : Instr). slot at k) one ∙ here.2)
-      ]);
+            elim (slots b (slot_is ∙ ap (λ (k : Instr). slot at k) one ∙ here.2)) [
+              | inl now ↦ inl now
+              | inr further ↦
+                  inr (subst (λ (n : ℕ). MayLeadTo image n b) (sym same) (on b further))
+            ]
+      ];
   names = names;
 }
 
@@ -220,7 +228,8 @@ pub more_sound : (image : ProgramImage) (seeds : List ℕ) (old new : Walk) (at 
     (i : Instr)
     → HoldsInstruction image at i → IsWalkSound image seeds old → IsReachedIfCode image seeds at
     → ((a : ℕ) → IsTrue (has_word new.outline.code a) ↔ (IsTrue (has_word old.outline.code a) ⊎ (a ≡ at)))
-    → slot_there ≡ slot at i → new.slots.items ≡ old.slots.items ++ option_to_list slot_there
+    → slot_there ≡ slot at i
+    → ((b : ℕ) → Contains new.slots.items b → Contains old.slots.items b ⊎ (slot_there ≡ Some b))
     → ((b : ℕ) → Contains new.heads.items b → Contains old.heads.items b ⊎ MayLeadTo image at b)
     → ((b : ℕ) → next ≡ Some b → MayLeadTo image at b)
     → IsWalkSound image seeds new × IfSome next (IsReachedIfCode image seeds)
@@ -237,7 +246,7 @@ more_sound image seeds old new at next slot_there i holds sound reached code slo
           | inr led ↦ led_to image seeds at a (reached (i, holds)) led
         ];
     slots = λ b there.
-        elim ((with_one old.slots.items new.slots.items slot_there b slots).0 there) [
+        elim (slots b there) [
           | inl was ↦ sound.slots b was
           | inr now ↦ (at, reached (i, holds), (i, holds, sym slot_is ∙ now))
         ];
@@ -270,7 +279,7 @@ ended_closed image w new next outline slots heads closed = record {
         | inr further ↦ inr (inl ((with_one w.heads.items new.heads.items next b heads).1 further))
       ];
   slots = λ a b there is_slot.
-      subst (λ s. Contains s.items b) (sym slots)
+      subst (λ s. Contains s.items b ⊎ MayLeadTo image a b) (sym slots)
       (closed.slots a b (subst (λ (o : Outline). IsTrue (has_word o.code a)) outline there) is_slot);
   names = subst (λ (o : Outline). NamesTargets image o) (sym outline) closed.names;
 }

@@ -22,7 +22,7 @@ pub(crate) struct Walk {
     pub outline: Outline,
     /// Where ways begin, in the order in which they were found.
     pub heads: Vec<u32>,
-    /// The delay slots of the words of code.
+    /// The delay slots of the words of code at which the program doesn't go on.
     pub slots: Vec<u32>,
 }
 
@@ -34,6 +34,25 @@ fn push_if(addresses: &mut Vec<u32>, at: Option<u32>) -> Result<(), AllocError>
         addresses.push(at)?;
     }
     Ok(())
+}
+
+/// Appends an address, where there is one and it isn't where the program goes on anyway.
+fn push_other(
+    addresses: &mut Vec<u32>,
+    at: Option<u32>,
+    next: Option<u32>,
+) -> Result<(), AllocError>
+    ensures keeps { OnOk result ((b : ℕ) → Contains addresses.old.items b
+        → Contains addresses.new.items b) }
+    ensures has { OnOk result ((b : ℕ) → at ≡ Some b
+        → Contains addresses.new.items b ⊎ (next ≡ Some b)) }
+    ensures only { OnOk result ((b : ℕ) → Contains addresses.new.items b
+        → Contains addresses.old.items b ⊎ (at ≡ Some b)) }
+{
+    if at == next {
+        return Ok(());
+    }
+    push_if(addresses, at)
 }
 
 /// Notes the target of an instruction at an address as the head of a way, and answers where the program goes on.
@@ -76,8 +95,8 @@ fn step(walk: &mut Walk, image: &Image, at: u32) -> Result<Option<u32>, AllocErr
     if !note_word(&mut walk.outline, image, at, &instr)? {
         return Ok(None);
     }
-    push_if(&mut walk.slots, slot(at, &instr))?;
     let next = lead(&mut walk.heads, image, at, &instr)?;
+    push_other(&mut walk.slots, slot(at, &instr), next)?;
     Ok(next)
 }
 
@@ -110,7 +129,7 @@ fn follow(alloc: Global, image: &Image, seeds: Vec<u32>) -> Result<Walk, AllocEr
     ensures all { IfOk result (λ w. (a : ℕ) → IsReached image.now seeds.items a
         → IsTrue (has_word w.outline.code a)) }
     ensures slots { IfOk result (λ w. (a b : ℕ) → IsTrue (has_word w.outline.code a)
-        → HasSlot image.now a b → Contains w.slots.items b) }
+        → HasSlot image.now a b → Contains w.slots.items b ⊎ MayLeadTo image.now a b) }
     ensures names { IfOk result (λ w. NamesTargets image.now w.outline) }
 {
     let mut walk = Walk {

@@ -43,7 +43,8 @@ pub record IsWalkSound (image : ProgramImage) (seeds : List ℕ) (w : Walk) : Ty
 pub record IsClosed (image : ProgramImage) (w : Walk) (Left : ℕ → Type 0) : Type 0 where
   pub leads : (a b : ℕ) → IsTrue (has_word w.outline.code a) → IsReachedFrom image a b
       → IsTrue (has_word w.outline.code b) ⊎ (Contains w.heads.items b ⊎ Left b)
-  pub slots : (a b : ℕ) → IsTrue (has_word w.outline.code a) → HasSlot image a b → Contains w.slots.items b
+  pub slots : (a b : ℕ) → IsTrue (has_word w.outline.code a) → HasSlot image a b
+      → Contains w.slots.items b ⊎ MayLeadTo image a b
   pub names : NamesTargets image w.outline
 
 -- what was found stays

@@ -33,14 +33,14 @@ returns-then-not-branch-clause-keeps c = record {
 pub returns-clause-closed : goal.returns-clause-closed
 returns-clause-closed c =
     more_closed c.args.image.now c.args.walk.now
-    (record { outline = c.note_word.new.outline; heads = c.lead.new.heads; slots = c.push_if.new.addresses }) c.args.at
+    (record { outline = c.note_word.new.outline; heads = c.lead.new.heads; slots = c.push_other.new.addresses }) c.args.at
     c.in_ok-next.next c.slot.result c.in-Some.instr c.in-Some.ensures.some c.requires c.in_ok-note_word.ensures.code
-    c.in_ok-note_word.ensures.named c.slot.ensures c.in_ok-push_if.ensures c.in_ok-next.ensures.has
-    c.in_ok-next.ensures.keeps
+    c.in_ok-note_word.ensures.named c.slot.ensures c.in_ok-push_other.ensures.keeps c.in_ok-push_other.ensures.has
+    c.in_ok-next.ensures.next c.in_ok-next.ensures.has c.in_ok-next.ensures.keeps
 
 pub returns-clause-sound : goal.returns-clause-sound
 returns-clause-sound c = λ seeds sound reached.
     more_sound c.args.image.now seeds c.args.walk.now
-    (record { outline = c.note_word.new.outline; heads = c.lead.new.heads; slots = c.push_if.new.addresses }) c.args.at
+    (record { outline = c.note_word.new.outline; heads = c.lead.new.heads; slots = c.push_other.new.addresses }) c.args.at
     c.in_ok-next.next c.slot.result c.in-Some.instr c.in-Some.ensures.some sound reached c.in_ok-note_word.ensures.code
-    c.slot.ensures c.in_ok-push_if.ensures c.in_ok-next.ensures.only c.in_ok-next.ensures.next
+    c.slot.ensures c.in_ok-push_other.ensures.only c.in_ok-next.ensures.only c.in_ok-next.ensures.next
