@@ -79,7 +79,7 @@ pub(crate) fn note_word(
     ensures named { OnOk result (NamesTargets image.now outline.new) }
     ensures again { IfOk result (λ is_new. is_new ≡ false → IsTrue (has_word outline.old.code at)) }
 {
-    if !outline.code.insert(at)? {
+    if !outline.code.insert_next(at)? {
         return Ok(false);
     }
     note_branch(outline, image, at, instr)?;

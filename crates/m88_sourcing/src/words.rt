@@ -5,10 +5,13 @@ ghost use Rattle.m88_sourcing.specs.Inside.Words.{IsLooking, bits_at, has_word, 
 use indexmap::IndexMap;
 use std::alloc::{AllocError, Global};
 
-/// A set of addresses. Each 32 of them that are 4 bytes apart, as those of words in a row are, share a row of bits.
+/// A set of addresses. Each 32 of them that are 4 bytes apart, as those of words in a row are, share a row of bits. The
+/// bits of one row are at hand, whatever the others have for it.
 #[derive(Drop)]
 pub(crate) struct Words {
     rows: IndexMap<u32, u32>,
+    row: u32,
+    bits: u32,
 }
 
 /// The number of the row of an address.
@@ -27,11 +30,14 @@ fn is_set(bits: u32, at: u32) -> bool
 
 impl Words {
     /// No address.
+    #[tactic(auto, unfolding(crate::specs::Inside::Words::row_bits))]
     pub fn new(alloc: Global) -> Words
         ensures { (a : ℕ) → has_word result a ≡ false }
     {
         Words {
             rows: IndexMap::new(alloc),
+            row: 0,
+            bits: 0,
         }
     }
 
@@ -42,28 +48,60 @@ impl Words {
         is_set(self.bits_at(at), at)
     }
 
-    /// Puts an address into the set. Whether it wasn't there.
-    pub fn insert(&mut self, at: u32) -> Result<bool, AllocError>
+    /// Has the bits of a row at hand.
+    #[tactic(auto, unfolding(crate::specs::Inside::Words::row_bits))]
+    fn turn_to(&mut self, at: u32) -> Result<(), AllocError>
+        ensures same { OnOk result ((a : ℕ) → bits_at self.new a ≡ bits_at self.old a) }
+        ensures row { OnOk result (self.new.row ≡ word_row at) }
+    {
+        if row_of(at) == self.row {
+            return Ok(());
+        }
+        let bits = self.bits_at(at);
+        self.rows.insert(self.row, self.bits)?;
+        self.row = row_of(at);
+        self.bits = bits;
+        Ok(())
+    }
+
+    /// Puts an address into the set, as one of many that share its row. Whether it wasn't there.
+    #[tactic(auto, unfolding(crate::specs::Inside::Words::row_bits))]
+    pub fn insert_next(&mut self, at: u32) -> Result<bool, AllocError>
         ensures new { IfOk result (λ is_new. is_new ≡ not (has_word self.old at)) }
         ensures has { OnOk result ((a : ℕ) → IsTrue (has_word self.new a)
             ↔ (IsTrue (has_word self.old a) ⊎ (a ≡ at))) }
     {
+        self.turn_to(at)?;
+        let was = is_set(self.bits, at);
+        self.bits |= 1 << (at / 4 % 32);
+        Ok(!was)
+    }
+
+    /// Puts an address into the set.
+    pub fn insert(&mut self, at: u32) -> Result<(), AllocError>
+        ensures { OnOk result ((a : ℕ) → IsTrue (has_word self.new a)
+            ↔ (IsTrue (has_word self.old a) ⊎ (a ≡ at))) }
+    {
+        if row_of(at) == self.row {
+            self.bits |= 1 << (at / 4 % 32);
+            return Ok(());
+        }
         if let Some(bits) = self.rows.get_mut(&row_of(at)) {
-            let old = *bits;
-            if is_set(old, at) {
-                return Ok(false);
-            }
-            *bits = old | 1 << (at / 4 % 32);
-            return Ok(true);
+            *bits |= 1 << (at / 4 % 32);
+            return Ok(());
         }
         self.rows.insert(row_of(at), 1 << (at / 4 % 32))?;
-        Ok(true)
+        Ok(())
     }
 
     /// The bits of the row of an address.
+    #[tactic(auto, unfolding(crate::specs::Inside::Words::row_bits))]
     fn bits_at(&self, at: u32) -> u32
         ensures { result ≡ bits_at self.now at }
     {
+        if row_of(at) == self.row {
+            return self.bits;
+        }
         match self.rows.get(&row_of(at)) {
             Some(bits) => *bits,
             None => 0,
@@ -80,16 +118,15 @@ pub(crate) struct Looking<'a> {
 }
 
 impl<'a> Looking<'a> {
-    /// A look at a set, which keeps the row of address 0 first.
+    /// A look at a set, which keeps its row at hand first.
     pub fn new(words: &'a Words) -> Looking<'a>
         ensures looking { IsLooking result }
         ensures words { result.words.now ≡ words.now }
     {
-        let bits = words.bits_at(0);
         Looking {
             words,
-            row: 0,
-            bits,
+            row: words.row,
+            bits: words.bits,
         }
     }
 

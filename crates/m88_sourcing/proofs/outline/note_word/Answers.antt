@@ -12,24 +12,24 @@ was_there false e = absurd cc
 
 pub returns-then-not-branch-clause-named : goal.returns-then-not-branch-clause-named
 returns-then-not-branch-clause-named c =
-    names_same c.args.image.now c.args.outline.now c.insert.new.self
-    (once_more c.args.outline.now.code c.insert.new.self c.args.at
-    (was_there (has_word c.args.outline.now.code c.args.at) (sym c.in_ok-insert.ensures.new ∙ c.if-not-branch.true))
-    c.in_ok-insert.ensures.has)
+    names_same c.args.image.now c.args.outline.now c.insert_next.new.self
+    (once_more c.args.outline.now.code c.insert_next.new.self c.args.at
+    (was_there (has_word c.args.outline.now.code c.args.at) (sym c.in_ok-insert_next.ensures.new ∙ c.if-not-branch.true))
+    c.in_ok-insert_next.ensures.has)
     c.requires.named
 
 pub returns-then-not-branch-clause-again : goal.returns-then-not-branch-clause-again
 returns-then-not-branch-clause-again c = λ e.
-    was_there (has_word c.args.outline.now.code c.args.at) (sym c.in_ok-insert.ensures.new ∙ c.if-not-branch.true)
+    was_there (has_word c.args.outline.now.code c.args.at) (sym c.in_ok-insert_next.ensures.new ∙ c.if-not-branch.true)
 
 pub returns-clause-code : goal.returns-clause-code
 returns-clause-code c = λ a.
     subst
     (λ (w : Words). IsTrue (has_word w a) ↔ (IsTrue (has_word c.args.outline.now.code a) ⊎ (a ≡ c.args.at)))
-    (sym c.in_ok-note_branch.ensures.code) (c.in_ok-insert.ensures.has a)
+    (sym c.in_ok-note_branch.ensures.code) (c.in_ok-insert_next.ensures.has a)
 
 pub returns-clause-named : goal.returns-clause-named
 returns-clause-named c =
-    names_more c.args.image.now c.args.outline.now c.insert.new.self c.note_branch.new.outline c.args.at
+    names_more c.args.image.now c.args.outline.now c.insert_next.new.self c.note_branch.new.outline c.args.at
     c.args.instr.now
-    c.requires.holds c.requires.named c.in_ok-insert.ensures.has c.in_ok-note_branch.ensures
+    c.requires.holds c.requires.named c.in_ok-insert_next.ensures.has c.in_ok-note_branch.ensures
