@@ -38,6 +38,8 @@ fn main(rt: HostRuntime) -> ExitCode {
 /// Tells a person which words there are.
 fn tell_usage(rt: &HostRuntime) {
     let _ = eprintln!(rt;
-        "m88source {VERSION}: it takes addresses, up to 64 at which code begins, and opens no file\nusage: m88source [ENTRY..] < RECORDS > SOURCE\n       m88source at ADDRESS [ENTRY..] < BINARY > SOURCE"
+        "m88source {VERSION}: it takes addresses, up to 64 at which code begins, and opens no file"
     );
+    let _ = eprintln!(rt; "usage: m88source [ENTRY..] < RECORDS > SOURCE");
+    let _ = eprintln!(rt; "       m88source at ADDRESS [ENTRY..] < BINARY > SOURCE");
 }

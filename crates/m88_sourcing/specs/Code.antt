@@ -32,7 +32,8 @@ pub record IsExit (image : ProgramImage) (a : ℕ) : Type 0 where
 
 -- an instruction stands at an address to which the one at another leads, which doesn't end the program
 abbrev pub IsReachedFrom : ProgramImage → ℕ → ℕ → Type 0
-IsReachedFrom image a b = (i : Instr) × HoldsInstruction image a i × ¬ IsExit image a × GoesTo a i b × HasInstruction image b
+IsReachedFrom image a b =
+    (i : Instr) × HoldsInstruction image a i × ¬ IsExit image a × GoesTo a i b × HasInstruction image b
 
 -- the addresses that are reached, where code begins at these
 pub data IsReached (image : ProgramImage) (seeds : List ℕ) : ℕ → Type 0 where

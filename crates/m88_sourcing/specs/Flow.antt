@@ -8,8 +8,8 @@ use Rattle.m88_isa.specs.declared.instr.ImmOp.TheVariants.{Or}
 use Rattle.m88_isa.specs.declared.instr.Instr.{Instr}
 use Rattle.m88_isa.specs.declared.instr.Instr.TheVariants as instr
 
--- where the program goes on behind an instruction, or comes back to: behind a call and its slot; nowhere behind a branch
--- or jump that is always taken, or behind a return from an exception
+-- where the program goes on behind an instruction, or comes back to: behind a call and its slot; nowhere behind a
+-- branch or jump that is always taken, or behind a return from an exception
 abbrev pub goes_on_to : ℕ → Instr → Option ℕ
 goes_on_to pc (instr.Branch false delayed words) = None
 goes_on_to pc (instr.Branch true delayed words) = Some (after_bytes pc (if delayed then 8 else 4))

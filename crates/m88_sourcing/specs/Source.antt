@@ -92,7 +92,7 @@ abbrev pub far_line : ℕ → List ℕ
 far_line t = codes ".set " ++ label_of t ++ codes "," ++ hexadecimal t
 
 -- the source of an image, with the lines that somebody put behind words of code
-pub record IsSourceWith (put : ℕ → List (List ℕ)) (image : ProgramImage) (entries : List ℕ) (text : List ℕ) : Type 0 where
+pub record IsSourceWith (put : ℕ → List (List ℕ)) (image : ProgramImage) (entries text : List ℕ) : Type 0 where
   pub start : List (List ℕ)
   pub far : List ℕ
   pub lines : List (List ℕ)

@@ -26,7 +26,8 @@ pub(crate) fn push_name(text: &mut Vec<u8>, at: u32) -> Result<(), AllocError>
 
 /// Appends the line of the label of an address.
 fn push_label(text: &mut Vec<u8>, at: u32) -> Result<(), AllocError>
-    ensures { OnOk result (text.new.items ≡ text.old.items ++ (label_line (label_of at) ++ line_end)) }
+    ensures { OnOk result
+        (text.new.items ≡ text.old.items ++ (label_line (label_of at) ++ line_end)) }
 {
     push_name(text, at)?;
     text.extend_from_slice(b":\n")

@@ -19,7 +19,8 @@ use std::alloc::AllocError;
 fn push_item(text: &mut Vec<u8>, bytes: &[u8], item: Item) -> Result<(), AllocError>
     requires within { item_length item ≤ length bytes.now }
     requires some { 0 < item_length item }
-    ensures { OnOk result (text.new.items ≡ text.old.items ++ (item_line bytes.now item ++ line_end)) }
+    ensures { OnOk result
+        (text.new.items ≡ text.old.items ++ (item_line bytes.now item ++ line_end)) }
 {
     match item {
         Item::Zeros(count) => push_zeros(text, count),

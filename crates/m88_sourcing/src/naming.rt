@@ -54,7 +54,8 @@ fn push_branch(text: &mut Vec<u8>, front: &[u8], between: u8, to: u32) -> Result
 /// Appends the line of an instruction at an address: of a branch its text with the name of its target.
 pub(crate) fn push_instruction(text: &mut Vec<u8>, at: u32, instr: &Instr) -> Result<(), AllocError>
     requires { IsValid instr.now }
-    ensures { OnOk result (text.new.items ≡ text.old.items ++ (code_text at instr.now ++ line_end)) }
+    ensures { OnOk result
+        (text.new.items ≡ text.old.items ++ (code_text at instr.now ++ line_end)) }
 {
     match (branch_target(at, instr), front_of(instr)) {
         (Some(to), Some((front, between))) => {

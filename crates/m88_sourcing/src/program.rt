@@ -21,10 +21,11 @@ use crate::source::source_text;
 use m88_base::{Image, NoMemory, Refusal, Reply, Sink, Source, Status};
 use std::alloc::Global;
 
-/// The whole program between its words, a source and a sink. The words are `[ENTRY..]` where the source gives S-records,
-/// and `at ADDRESS [ENTRY..]` where it gives the bytes of a binary that stand from ADDRESS on and start there; each ENTRY,
-/// 64 at most, is an address at which code begins besides the start. Addresses are numbers of the assembly language. The
-/// source is read to its end, and the sink is given the source of its image, or the line that refuses it.
+/// The whole program between its words, a source and a sink. The words are `[ENTRY..]` where the source gives
+/// S-records, and `at ADDRESS [ENTRY..]` where it gives the bytes of a binary that stand from ADDRESS on and start
+/// there. Each ENTRY, 64 at most, is an address at which code begins besides the start. Addresses are numbers of the
+/// assembly language. The source is read to its end, and the sink is given the source of its image, or the line that
+/// refuses it.
 pub fn m88source<S: Source, K: Sink>(
     alloc: Global,
     words: &[String],
@@ -32,7 +33,8 @@ pub fn m88source<S: Source, K: Sink>(
     sink: &mut K,
 ) -> Status
     // Words that ask for nothing, exactly. Then nothing is read.
-    ensures usage { (result ≡ Status.Usage) ↔ ((request : Asked) → ¬ Asks (words_of_call words.now) request) }
+    ensures usage { (result ≡ Status.Usage)
+        ↔ ((request : Asked) → ¬ Asks (words_of_call words.now) request) }
     ensures unread { ((request : Asked) → ¬ Asks (words_of_call words.now) request)
         → source.new ≡ source.old }
 
@@ -73,7 +75,8 @@ pub fn m88source<S: Source, K: Sink>(
         → Answers (IsAcceptedIn request.at bytes) result }
 
     // Words ask for one thing. An input is accepted, or refused for one reason, never both; and it has one text.
-    ensures one_request { (a b : Asked) → Asks (words_of_call words.now) a → Asks (words_of_call words.now) b → a ≡ b }
+    ensures one_request { (a b : Asked) → Asks (words_of_call words.now) a
+        → Asks (words_of_call words.now) b → a ≡ b }
     ensures one_verdict { (at : Option ℕ) (bytes : List ℕ)
         → HasOneFaultUnless (IsAcceptedIn at bytes) (IsRefusedIn at bytes) }
     ensures one_text { (request : Asked) (bytes a b : List ℕ) → Sources request bytes a

@@ -47,7 +47,8 @@ fn entries(words: &[String]) -> Option<ArrayVec<u32, MOST_ENTRIES>>
 
 /// The first word, and those behind it.
 fn first_word(words: &[String]) -> Option<(&str, &[String])>
-    ensures found { IfSome result (λ parts. words_of_call words.now ≡ parts.0.now ∷ words_of_call parts.1.now) }
+    ensures found { IfSome result (λ parts. words_of_call words.now
+        ≡ parts.0.now ∷ words_of_call parts.1.now) }
     ensures none { result ≡ None → words_of_call words.now ≡ [] }
 {
     let (first, rest) = words.split_first()?;
@@ -56,8 +57,10 @@ fn first_word(words: &[String]) -> Option<(&str, &[String])>
 
 /// The words behind `at`, where that is the first.
 fn behind_at(words: &[String]) -> Option<&[String]>
-    ensures some { IfSome result (λ rest. words_of_call words.now ≡ codes "at" ∷ words_of_call rest.now) }
-    ensures none { result ≡ None → (rest : List (List ℕ)) → words_of_call words.now ≡ codes "at" ∷ rest → ⊥ }
+    ensures some { IfSome result (λ rest. words_of_call words.now
+        ≡ codes "at" ∷ words_of_call rest.now) }
+    ensures none { result ≡ None → (rest : List (List ℕ))
+        → words_of_call words.now ≡ codes "at" ∷ rest → ⊥ }
 {
     let (first, rest) = first_word(words)?;
     if first == "at" { Some(rest) } else { None }
