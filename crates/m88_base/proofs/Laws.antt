@@ -22,8 +22,8 @@ pub use Rattle.m88_base.proofs.Lookup.{option_or-none, option_or_assoc}
 -- joined lists where the first is whole pieces.
 pub use Rattle.m88_base.proofs.InPieces.{first_piece, length-pieces, next_piece, no_pieces, only_piece, pieces-append}
 -- Lines: one ends at a line feed, at a carriage return with its line feed, or with the text; any other byte before a
--- text begins its first line.
-pub use Rattle.m88_base.proofs.Lines.{ends_last, ends_source, front_by, is_inner}
+-- text begins its first line, and one line with its end is the first of a text that it begins.
+pub use Rattle.m88_base.proofs.Lines.{ends_last, ends_source, first_line, front_by, is_inner}
 -- an input is parted at a line in one way, or it isn't parted, and one of the two is so
 pub use Rattle.m88_base.proofs.PartedLines.{one_parting, parted_not_unparted, parted_told}
 -- Texts with a mark: a text is cut at its first mark in one way, one that lacks the mark has no cut, and digits lack a
@@ -39,12 +39,14 @@ pub use Rattle.m88_base.proofs.Digits.{are_digits, decimal_found, decimal_needed
 pub use Rattle.m88_base.proofs.Hexadecimal.{hex8-hex8_of, hex8_of-hex8, is_hex8-hex8, value_of_hex8}
 -- Statements that hold or fail: an order of numbers, the sameness of texts, and two together.
 pub use Rattle.m88_base.proofs.Decided.{IsDecided, at_most, both_decided, same_text}
--- Sources and sinks: where no call is made the count of calls stays, and one more call adds one.
-pub use Rattle.m88_base.proofs.Calls.{calls_more, calls_none}
+-- Sources and sinks: one more call adds one to the count of calls.
+pub use Rattle.m88_base.proofs.Calls.{calls_more}
 -- what two reads take together, and that the front of a buffer is as long as what was read into it
 pub use Rattle.m88_base.proofs.Known.{consumes_front, consumes_more, length_front, takes_at_most, takes_exactly}
 -- Sinks and sources: a text stands whole behind what a sink held only where it was written whole, and a source that has
 -- nothing left gave all that it had.
 pub use Rattle.m88_base.proofs.Wholly.{not_part, not_whole, same_input}
--- a program that wrote ended in one of three ways
-pub use Rattle.m88_base.proofs.Wholly.{answered, only_refused, wrote}
+-- a program that has no text wrote nothing, and one that wrote ended in one of three ways
+pub use Rattle.m88_base.proofs.Wholly.{answered, none_of_reading, only_refused}
+-- Filters: what one answers that wrote nothing, what one whose reply was written, and that an input of it is answered.
+pub use Rattle.m88_base.proofs.Answering.{AreVerdicts, answers_input, answers_nothing, answers_reply}

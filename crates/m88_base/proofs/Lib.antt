@@ -1,4 +1,5 @@
 -- What only helps the proofs; Laws is for those above.
+pub mod Answering
 pub mod Apart
 pub mod AsciiDigits
 pub mod Calls

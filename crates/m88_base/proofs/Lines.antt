@@ -1,7 +1,7 @@
 -- The first line of a source, found by its LF.
-use Rattle.std.proofs.Common.{◌≡◌, ℕ, suc, ◌<◌, ◌≤◌, Bool, true, false, cond, not, ◌&&◌, ◌==◌, List, [], ◌∷◌, ◌++◌, length, take, drop, refl, sym, ap, ◌∙◌, arith}
+use Rattle.std.proofs.Common.{◌≡◌, ◌≢◌, ℕ, suc, ◌<◌, ◌≤◌, Bool, true, false, cond, not, ◌&&◌, ◌==◌, List, [], ◌∷◌, ◌++◌, length, take, drop, refl, sym, ap, ◌∙◌, arith, eqb-true, ne_eqb}
 use Rattle.std.specs.List.{prefix_len}
-use Rattle.m88_base.specs.Lines.{lines_of, begins_with_lf, behind_line, on_first_line}
+use Rattle.m88_base.specs.Lines.{IsOneLine, lines_of, begins_with_lf, behind_line, on_first_line}
 use Rattle.m88_base.specs.Inside.LineEnd.{without_cr}
 use Rattle.m88_base.proofs.Splitting.{len_to, len_to_is}
 
@@ -14,6 +14,19 @@ pub front_by : (b : ℕ) (bs : List ℕ) (v w : Bool) → (b == 10) ≡ v → (b
 unfolding lines_of
 front_by b bs v w e f = ap (λ (x : Bool). cond x ([] ∷ lines_of bs) (cond (b == 13 && begins_with_lf bs) (lines_of bs) (on_first_line b (lines_of bs)))) e
     ∙ ap (λ (x : Bool). cond v ([] ∷ lines_of bs) (cond x (lines_of bs) (on_first_line b (lines_of bs)))) f
+
+-- one line with its line end, before a text
+pub first_line : (line rest : List ℕ) → IsOneLine line → lines_of (line ++ 10 ∷ rest) ≡ line ∷ lines_of rest
+first_line [] rest h = front_by 10 rest true (10 == 13 && begins_with_lf rest) refl refl
+first_line (b ∷ bs) rest h =
+    front_by b (bs ++ 10 ∷ rest) false false (ne_eqb b 10 h.0) (by (b == 13) refl bs h.1 h.2)
+    ∙ ap (on_first_line b) (first_line bs rest h.2)
+  where
+    by : (t : Bool) → (b == 13) ≡ t → (cs : List ℕ) → (b ≡ 13 → cs ≢ []) → IsOneLine cs
+        → (t && begins_with_lf (cs ++ 10 ∷ rest)) ≡ false
+    by false e cs h k = refl
+    by true e [] h k = absurd (h (eqb-true b 13 e) refl)
+    by true e (c ∷ cs) h k = ne_eqb c 10 k.0
 
 and_true : (x : Bool) → (x && true) ≡ x
 and_true true = refl

@@ -4,7 +4,7 @@ use Rattle.std.proofs.Common.{◌≡◌, ℕ, ◌<◌, ◌+◌, List, [], Option
 use Rattle.std.specs.Io.KnownBytes.{Consumes}
 use Rattle.std.proofs.lemmas.List.{append-nil, length-take-le}
 use Rattle.m88_base.specs.Outside.{AppendsPart, IsWhole}
-use Rattle.m88_base.specs.Status.{Answers, WritesNothing}
+use Rattle.m88_base.specs.Status.{Answers, IsOfReading, WritesNothing}
 use Rattle.m88_base.specs.declared.status.Status.{Status}
 use Rattle.m88_base.specs.declared.status.Status.TheVariants.{Done, Usage, SourceFault, SinkFault, Refused, Memory, TooLong}
 
@@ -32,11 +32,14 @@ same_input old new input given had left consumes =
     subst (λ o. Consumes o (Some []) given) had (subst (λ o. Consumes old o given) left consumes) in
     sym (append-nil given) ∙ sym all
 
--- a program that wrote ended in none of the ways in which nothing is written
-pub wrote : (status other : Status) → ¬ WritesNothing status → WritesNothing other → status ≡ other → ⊥
-wrote status other some none same = some (subst WritesNothing (sym same) none)
+-- where there is no text, nothing was written
+pub none_of_reading : (status : Status) → IsOfReading status → WritesNothing status
+none_of_reading SourceFault of = tt
+none_of_reading TooLong of = tt
+none_of_reading Memory of = tt
+none_of_reading _ of = absurd of
 
--- it ended in one of the three others
+-- a program that wrote ended in one of the three other ways
 pub answered : (Accepted : Type 0) (status : Status) → ¬ WritesNothing status → (status ≡ Done → Accepted) → (status ≡ Refused → ¬ Accepted)
     → (status ≡ SinkFault → ⊥) → Answers Accepted status
 answered Accepted Done some done refused failed = inr (inl (done refl, refl))

@@ -1,14 +1,14 @@
 -- What a filter does, a program between a source and a sink. Of a source or a sink that doesn't tell its bytes or its
 -- calls, nothing is said of these.
-use Rattle.std.specs.Prelude.{ℕ, ◌≡◌, ◌≢◌, ◌+◌, ◌≤◌, List, Option, Some, length}
+use Rattle.std.specs.Prelude.{ℕ, ◌≡◌, ◌≢◌, ◌⊎◌, ◌+◌, ◌≤◌, List, Option, Some, length}
 use Rattle.std.specs.Io.KnownBytes.{Appends}
 use Rattle.m88_base.specs.Calls.{CallsWithin}
 use Rattle.m88_base.specs.Causes.{Rose}
-use Rattle.m88_base.specs.Outside.{AppendsPart, GivesAll, TakesAtMost, TakesExactly}
+use Rattle.m88_base.specs.Outside.{AppendsPart, GivesAll, IsWhole, TakesAtMost, TakesExactly}
 use Rattle.m88_base.specs.Reading.{most_input}
 use Rattle.m88_base.specs.Status.{IsAnswered, WritesNothing}
 use Rattle.m88_base.specs.declared.status.Status.{Status}
-use Rattle.m88_base.specs.declared.status.Status.TheVariants.{SourceFault, SinkFault, TooLong}
+use Rattle.m88_base.specs.declared.status.Status.TheVariants.{Done, Refused, SinkFault, SourceFault, TooLong}
 
 -- what it does to its source, where it ends with this status
 pub record ReadsFor {S : Type 0} (left : S → Option (List ℕ)) (calls : S → Option ℕ) (faults : S → ℕ) (old new : S)
@@ -55,3 +55,21 @@ pub record AnswersInput (before after : Option (List ℕ)) (IsText : List ℕ �
   pub text : List ℕ
   pub is_text : IsText input text
   pub written : SinkIsGiven text
+
+-- what it answers, where it ends with this status: an input that is accepted has a text, and one that is refused
+pub record AnswersFor {S K : Type 0} (left : S → Option (List ℕ)) (held : K → Option (List ℕ)) (calls : K → Option ℕ)
+    (source source_after : S) (sink sink_after : K) (AcceptedWith RefusedWith : List ℕ → List ℕ → Type 0)
+    (status : Status) : Type 0 where
+  -- the input was read to its end and is accepted, and the sink was given its text
+  pub done : status ≡ Done
+      → AnswersInput (left source) (left source_after) AcceptedWith (WritesText held calls sink sink_after)
+  -- the input was read to its end and is refused, and the sink was given the text that says so
+  pub refused : status ≡ Refused
+      → AnswersInput (left source) (left source_after) RefusedWith (WritesText held calls sink sink_after)
+  -- an input whose refusal stands whole in the sink was refused
+  pub refusal : (input text : List ℕ) → RefusedWith input text → left source ≡ Some input
+      → IsWhole (held sink) (held sink_after) text → status ≡ Refused
+  -- the sink failed, and was given a front of either text that lacks at least one byte
+  pub part : status ≡ SinkFault
+      → AnswersInput (left source) (left source_after) (λ input text. AcceptedWith input text ⊎ RefusedWith input text)
+      (WritesPart held calls sink sink_after)

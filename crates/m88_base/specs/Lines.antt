@@ -1,6 +1,6 @@
 -- The lines of an input. A line ends by LF, by CR LF or with the input; a line end that is the last thing in the input
 -- opens no further line, and an empty input has no line.
-use Rattle.std.specs.Prelude.{ℕ, Bool, false, List, [], ◌∷◌, ◌++◌, ◌==◌, ◌&&◌, flat_map, if◌then◌else◌}
+use Rattle.std.specs.Prelude.{ℕ, ◌≡◌, ◌≢◌, Bool, false, List, [], ◌∷◌, ◌++◌, ◌==◌, ◌&&◌, flat_map, if◌then◌else◌}
 
 -- the byte that ends a line
 abbrev pub line_feed : ℕ
@@ -17,6 +17,11 @@ line_end = line_feed ∷ []
 -- the text of lines, a line end behind each
 abbrev pub text_of_lines : List (List ℕ) → List ℕ
 text_of_lines lines = flat_map (λ line. line ++ line_end) lines
+
+-- one line: no line feed is in it, and no carriage return at its end
+abbrev pub IsOneLine : List ℕ → Type 0
+IsOneLine [] = Unit {0}
+IsOneLine (b ∷ bs) = (b ≢ line_feed) × (b ≡ carriage_return → bs ≢ []) × IsOneLine bs
 
 -- the bytes begin with an LF
 abbrev pub begins_with_lf : List ℕ → Bool

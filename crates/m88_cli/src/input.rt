@@ -50,7 +50,7 @@ impl Input {
 }
 
 /// The whole input of a command; one that reads none leaves the source alone.
-#[tactic(auto, using(m88_base::proofs::Laws::calls_none))]
+#[tactic(auto, using(m88_base::proofs::Calls::calls_none))]
 pub fn input_of<S: Source>(
     alloc: Global,
     command: &Command,

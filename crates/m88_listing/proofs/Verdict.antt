@@ -1,5 +1,6 @@
 -- A source has one text that lists it.
 use Rattle.std.proofs.Common.{◌≡◌, ℕ, List, inl, inr, arith, sym, ap, ◌∙◌, subst}
+use Rattle.m88_base.proofs.Laws.{AreVerdicts}
 use Rattle.m88_base.specs.Refusal.{Refusal}
 use Rattle.m88_base.specs.Lines.{text_of_lines}
 use Rattle.m88_parse.proofs.Laws.{one_source_verdict}
@@ -12,7 +13,7 @@ use Rattle.m88_asm.proofs.Laws.{not_linked, one_assembly_verdict, same_program_r
 use Rattle.m88_asm.specs.Sources.{IsAssemblySource, IsRefusedProgram, IsUnlinked, asm_kind_behind, link_kind_behind}
 use Rattle.m88_asm.specs.Units.{unit_layout}
 use Rattle.m88_asm.specs.declared.fault.AsmKind.{AsmKind}
-use Rattle.m88_listing.specs.Answer.{IsRefusedWith, Lists}
+use Rattle.m88_listing.specs.Answer.{IsRefusedWith, Lists, ListsRefused}
 use Rattle.m88_listing.specs.Entries.{AreInOrder, labels_of}
 use Rattle.m88_listing.specs.Listing.{ListsAccepted, listing_lines}
 use Rattle.m88_listing.specs.Refused.{refused_text}
@@ -68,3 +69,11 @@ one_text source a b (inr x) (inr y) =
     let plain = same_program_refusal 0 source x.refusal y.refusal (refused_plainly source x.refusal x.rows x.refused) (refused_plainly source y.refusal y.rows y.refused) in
     x.is_text ∙ ap (refused_text x.rows source) plain
     ∙ ap (λ (rows : List Row). refused_text rows source y.refusal) (same_rows source x.refusal y.refusal x.rows y.rows x.refused y.refused) ∙ sym y.is_text
+
+-- a source isn't accepted and refused, and one that is refused has one text
+pub list_verdicts : AreVerdicts ListsAccepted ListsRefused
+list_verdicts = record {
+  not_both = λ source a b accepted refused.
+      not_linked 0 source refused.refusal accepted.accepted (refused_plainly source refused.refusal refused.rows refused.refused);
+  one_refusal = λ source a b x y. one_text source a b (inr x) (inr y);
+}

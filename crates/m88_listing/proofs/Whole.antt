@@ -1,13 +1,10 @@
--- The whole text of a listing, and what a reply says of a source that has nothing left.
-use Rattle.std.proofs.Common.{◌≡◌, ℕ, ◌<◌, ◌≤◌, List, ◌++◌, Option, Some, Bool, true, false, inl, inr, IfSome, length, length-append, take, drop, ap, sym, ◌∙◌, subst, arith}
-use Rattle.std.specs.Prelude.{MatchBool, codes}
-use Rattle.std.proofs.KnownBytes.{Consumes-whole}
+-- The whole text of a listing.
+use Rattle.std.proofs.Common.{◌≡◌, ℕ, ◌<◌, ◌≤◌, List, ◌++◌, false, length, length-append, take, drop, ap, sym, ◌∙◌, subst, arith}
+use Rattle.std.specs.Prelude.{codes}
 use Rattle.std.proofs.lemmas.Bool.{ltb-false}
 use Rattle.std.proofs.lemmas.List.{append-nil}
 use Rattle.m88_base.specs.Image.{ProgramImage, byte_at, most_bytes}
 use Rattle.m88_base.specs.Lines.{line_end, lines_of, text_of_lines}
-use Rattle.m88_base.specs.Outside.{GivesAll}
-use Rattle.m88_base.specs.declared.reply.Reply.{Reply}
 use Rattle.m88_base.specs.Refusal.{Refusal}
 use Rattle.m88_base.specs.Refused.{refused_line}
 use Rattle.m88_parse.specs.Language.Units.{IsUnit}
@@ -22,11 +19,10 @@ use Rattle.m88_asm.specs.Faults.{IsAssembled}
 use Rattle.m88_asm.specs.Images.{IsUnitImage, unit_start}
 use Rattle.m88_asm.specs.Objects.{objects_of}
 use Rattle.m88_asm.specs.Units.{based, unit_layout}
-use Rattle.m88_listing.specs.Answer.{Lists, ListsRefused}
+use Rattle.m88_listing.specs.Answer.{ListsRefused}
 use Rattle.m88_listing.specs.Entries.{numbers_of}
-use Rattle.m88_listing.specs.Listing.{ListsAccepted, entry_lines, listing_lines}
+use Rattle.m88_listing.specs.Listing.{entry_lines, listing_lines}
 use Rattle.m88_listing.specs.Refused.{line_at, mark_line, refused_text, text_with}
-use Rattle.m88_listing.specs.Inside.Replies.{ListsAs}
 use Rattle.m88_listing.specs.Rows.{Row, numbered_lines, rows_of_unit, source_lines}
 use Rattle.m88_listing.specs.Sums.{sum_line, sum_lines}
 use Rattle.m88_listing.specs.Inside.Slots.{slots_of, walked}
@@ -35,7 +31,6 @@ use Rattle.m88_listing.specs.declared.slots.Slot.{Slot}
 use Rattle.m88_listing.proofs.Climbing.{climbs, unit_climbs, walked_lines}
 use Rattle.m88_listing.proofs.Fitting.{unit_kept}
 use Rattle.m88_listing.proofs.Texts.{text_append}
-use Rattle.m88_listing.proofs.Verdict.{one_text}
 
 -- the objects of a unit that isn't too large have no more bytes than an image may have
 pub size_low : (u : Source) → IsAssembled u → is_too_large (unit_layout u).extents ≡ false → total_size (objects_of u) ≤ most_bytes
@@ -88,22 +83,3 @@ refusal_some rows source r =
 
 pub text_some : (source text : List ℕ) → ListsRefused source text → 0 < length text
 text_some source text h = subst (λ (t : List ℕ). 0 < length t) (sym h.is_text) (refusal_some h.rows source h.refusal)
-
--- a reply to what a source gave is one to what it had
-pub reply_given : (before after : Option (List ℕ)) (bytes : List ℕ) (reply : Reply) → before ≡ Some bytes
-    → (given : List ℕ) × GivesAll before after given × ListsAs given reply → ListsAs bytes reply
-reply_given before after bytes reply had ok =
-    subst (λ left. IfSome left (λ source. ListsAs source reply)) had
-    (Consumes-whole before after ok.0 (λ source. ListsAs source reply) ok.1.0 ok.1.1 ok.2)
-
--- the reply's text lists the source
-by_accepted : (accepted : Bool) (source text : List ℕ) → MatchBool accepted (ListsAccepted source text) (ListsRefused source text) → Lists source text
-by_accepted true source text h = inl h
-by_accepted false source text h = inr h
-
-pub lists_of : (source : List ℕ) (reply : Reply) → ListsAs source reply → Lists source reply.text.items
-lists_of source reply h = by_accepted reply.accepted source reply.text.items h
-
--- the reply to a source that is refused is its text
-pub text_of_reply : (source text : List ℕ) (reply : Reply) → ListsRefused source text → ListsAs source reply → reply.text.items ≡ text
-text_of_reply source text reply refused h = one_text source reply.text.items text (lists_of source reply h) (inr refused)

@@ -1,9 +1,9 @@
 //! The top call.
-ghost use Rattle.std.specs.Prelude.{[], ◌≡◌, ◌↔◌, ◌<◌, ℕ, IfErr, IfOk, List, Some, length};
+ghost use Rattle.std.specs.Prelude.{◌≡◌, ◌↔◌, ◌<◌, ℕ, IfErr, IfOk, List, length};
 ghost use Rattle.m88_base.specs.Causes.{Rose};
-ghost use Rattle.m88_base.specs.Filter.{AnswersInput, IsInputLeft, ReadsFor, WritesFor, WritesPart, WritesText};
+ghost use Rattle.m88_base.specs.Filter.{AnswersFor, IsInputLeft, ReadsFor, WritesFor};
 ghost use Rattle.m88_base.specs.OneVerdict.{HasOneFaultUnless};
-ghost use Rattle.m88_base.specs.Outside.{GivesAll, IsWhole};
+ghost use Rattle.m88_base.specs.Outside.{GivesAll};
 ghost use Rattle.m88_base.specs.Reading.{ReadsSource};
 ghost use Rattle.m88_base.specs.Status.{Answers, IsOfReading};
 ghost use Rattle.m88_asm.specs.Sources.{IsProgramSource, IsRefusedProgram};
@@ -33,26 +33,12 @@ pub fn m88list<S: Source, K: Sink>(
     ensures reading { ReadsFor S.left S.calls S.faults source.old source.new result }
     ensures writing { WritesFor K.faults sink.old sink.new result }
 
-    // The source is accepted, was read to its end, and the sink was given its listing, by no more calls than that
-    // has bytes.
-    ensures done { result ≡ Status.Done
-        → AnswersInput (S.left source.old) (S.left source.new) ListsAccepted
-        (WritesText K.held K.calls sink.old sink.new) }
-
-    // The source is not accepted, and the sink was given the text that says so in the same way; a source whose
-    // text stands whole in the sink was refused.
-    ensures refused { result ≡ Status.Refused
-        → AnswersInput (S.left source.old) (S.left source.new) ListsRefused
-        (WritesText K.held K.calls sink.old sink.new) }
-    ensures refusal { (bytes text : List ℕ) → ListsRefused bytes text
-        → S.left source.old ≡ Some bytes → S.left source.new ≡ Some []
-        → IsWhole (K.held sink.old) (K.held sink.new) text → result ≡ Status.Refused }
-
-    // The sink failed, and was given a front of the text that lacks at least one byte, by no more calls than the
-    // text has bytes.
-    ensures part { result ≡ Status.SinkFault
-        → AnswersInput (S.left source.old) (S.left source.new) Lists
-        (WritesPart K.held K.calls sink.old sink.new) }
+    // Done: the source was read to its end and is accepted, and the sink was given its listing. Refused: it was read
+    // to its end and is refused, and the sink was given the text that says so. SinkFault: the sink was given a front
+    // of either text, at least one byte short. No text took more calls than it has bytes. A source whose refusal
+    // stands whole in the sink was refused.
+    ensures answers { AnswersFor S.left K.held K.calls source.old source.new sink.old sink.new
+        ListsAccepted ListsRefused result }
 
     // Without words, and where nothing failed, a source that is not too long is answered: Done if it is
     // accepted, Refused if it is not, or Memory.

@@ -1,16 +1,15 @@
 -- The verdict on an input, by what was read of it.
-use Rattle.std.specs.Prelude.{ℕ, List, [], ◌++◌, ◌≡◌, ◌<◌, Bool, true, false, Option, Some, None, IfOk, IfSome, Result, Ok, Err, codes, length}
+use Rattle.std.specs.Prelude.{ℕ, List, [], ◌++◌, ◌≡◌, ◌<◌, true, false, Option, Some, None, IfOk, Result, Ok, Err, codes, length}
 use Rattle.std.specs.Option.{option_or}
-use Rattle.std.proofs.KnownBytes.{Consumes-whole}
-use Rattle.std.proofs.Common.{refl, sym, ap, inl, inr, ◌∙◌, arith, subst, length-append}
+use Rattle.std.proofs.Common.{refl, sym, ap, ◌∙◌, arith, subst, length-append}
+use Rattle.m88_base.proofs.Laws.{AreVerdicts}
 use Rattle.m88_base.specs.Lines.{line_end, lines_of}
-use Rattle.m88_base.specs.Outside.{GivesAll}
 use Rattle.m88_base.specs.Refused.{placed_reason}
 use Rattle.m88_base.specs.declared.failing.NoMemory.{NoMemory}
 use Rattle.m88_base.specs.declared.reply.Reply.{Reply}
 use Rattle.m88_serving.specs.Cases.{Case, case_in}
 use Rattle.m88_serving.specs.Faults.{case_fault, fault_of_kind, record_fault, repeated_from, serve_reason}
-use Rattle.m88_serving.specs.Served.{IsServedOrTurnedDown, IsServed, IsTurnedDown, turned_down_line, served_text}
+use Rattle.m88_serving.specs.Served.{IsServed, IsTurnedDown, turned_down_line, served_text}
 use Rattle.m88_serving.specs.Serving.{named_bus, serving_with}
 use Rattle.m88_serving.specs.Verdict.{faultless, case_verdict, serve_verdict}
 use Rattle.m88_serving.specs.Inside.Replies.{RepliesServed}
@@ -91,42 +90,24 @@ accepted_reply input c words bus (Ok reply) read none same named granted is = rw
 })
 accepted_reply input c words bus (Err e) read none same named granted is = tt
 
--- a reply is an answer
-answer_by : (input text : List ℕ) (accepts : Bool) → (accepts ≡ true → IsServed input text) → (accepts ≡ false → IsTurnedDown input text) → IsServedOrTurnedDown input text
-answer_by input text true granted denied = inl (granted refl)
-answer_by input text false granted denied = inr (denied refl)
-
-pub answer_of : (input : List ℕ) (reply : Reply) → RepliesServed input reply → IsServedOrTurnedDown input reply.text.items
-answer_of input reply replies =
-    answer_by input reply.text.items reply.accepted (λ granted. rw granted at replies) (λ denied. rw denied at replies)
-
--- the reply is to the input that was left, which was given to its end
-pub reply_given : (before after : Option (List ℕ)) (input : List ℕ) (reply : Reply) → before ≡ Some input
-    → (given : List ℕ) × GivesAll before after given × RepliesServed given reply → RepliesServed input reply
-reply_given before after input reply had ok =
-    subst (λ left. IfSome left (λ given. RepliesServed given reply)) had
-    (Consumes-whole before after ok.0 (λ given. RepliesServed given reply) ok.1.0 ok.1.1 ok.2)
-
 -- an input isn't accepted and refused
 pub not_both : (input : List ℕ) (told : Case) (fault : ServeFault) → serve_verdict input ≡ Ok told → serve_verdict input ≡ Err fault → ⊥
 not_both input told fault granted denied = let e : Ok told ≡ Err fault = sym granted ∙ denied in absurd cc
 
--- an input that is refused has this text
-refused_by : (input text : List ℕ) (fault : ServeFault) (accepts : Bool) → serve_verdict input ≡ Err fault → (accepts ≡ true → IsServed input text)
-    → (accepts ≡ false → IsTurnedDown input text) → text ≡ turned_down_line fault
-refused_by input text fault true refused granted denied = let served = granted refl in absurd (not_both input served.told fault served.accepted refused)
-refused_by input text fault false refused granted denied =
-    let down = denied refl in
-    let e : Err down.fault ≡ Err fault = sym down.refused ∙ refused in
-    let same : down.fault ≡ fault = cc in
-    down.is_text ∙ ap turned_down_line same
-
-pub text_of_reply : (input : List ℕ) (fault : ServeFault) (reply : Reply) → serve_verdict input ≡ Err fault → RepliesServed input reply
-    → reply.text.items ≡ turned_down_line fault
-text_of_reply input fault reply refused replies =
-    refused_by input reply.text.items fault reply.accepted refused (λ granted. rw granted at replies) (λ denied. rw denied at replies)
-
--- such a text has a byte
-pub fault_line_some : (fault : ServeFault) → 0 < length (turned_down_line fault)
+-- the line of a refusal has a byte
+fault_line_some : (fault : ServeFault) → 0 < length (turned_down_line fault)
 fault_line_some fault =
     omega (arith, length-append (codes "refused ") (placed_reason fault.line 1 (serve_reason fault.kind) ++ line_end))
+
+pub turned_down_some : (input text : List ℕ) → IsTurnedDown input text → 0 < length text
+turned_down_some input text h = subst (λ (t : List ℕ). 0 < length t) (sym h.is_text) (fault_line_some h.fault)
+
+-- an input that is refused has one line
+pub serve_verdicts : AreVerdicts IsServed IsTurnedDown
+serve_verdicts = record {
+  not_both = λ input a b served down. not_both input served.told down.fault served.accepted down.refused;
+  one_refusal = λ input a b x y.
+      let e : Err x.fault ≡ Err y.fault = sym x.refused ∙ y.refused in
+      let same : x.fault ≡ y.fault = cc in
+      x.is_text ∙ ap turned_down_line same ∙ sym y.is_text;
+}

@@ -1,6 +1,6 @@
 -- What is written for an input: the accesses that the handler must make, in order, and what they come to; or the line
 -- that refuses the input.
-use Rattle.std.specs.Prelude.{◌≡◌, ◌⊎◌, ℕ, zero, suc, Bool, ◌+◌, ◌==◌, List, [], ◌++◌, Ok, Err, codes, decimal, nat_le, flat_map, slice_index_or, if◌then◌else◌}
+use Rattle.std.specs.Prelude.{◌≡◌, ℕ, zero, suc, Bool, ◌+◌, ◌==◌, List, [], ◌++◌, Ok, Err, codes, decimal, nat_le, flat_map, slice_index_or, if◌then◌else◌}
 use Rattle.m88_base.specs.Hex.{hex8}
 use Rattle.m88_base.specs.Lines.{line_end}
 use Rattle.m88_base.specs.Reg.{number_of}
@@ -113,7 +113,3 @@ pub record IsTurnedDown (input text : List ℕ) : Type 0 where
   pub fault : ServeFault
   pub refused : serve_verdict input ≡ Err fault
   pub is_text : text ≡ turned_down_line fault
-
--- the text answers an input
-abbrev pub IsServedOrTurnedDown : List ℕ → List ℕ → Type 0
-IsServedOrTurnedDown input text = IsServed input text ⊎ IsTurnedDown input text

@@ -1,14 +1,13 @@
 //! The top call.
-ghost use Rattle.std.specs.Prelude.{[], ◌≡◌, ◌↔◌, ◌<◌, ℕ, IfErr, IfOk, List, Some, length};
+ghost use Rattle.std.specs.Prelude.{◌≡◌, ◌↔◌, ◌<◌, ℕ, IfErr, IfOk, List, length};
 ghost use Rattle.m88_base.specs.Causes.{Rose};
-ghost use Rattle.m88_base.specs.Filter.{AnswersInput, IsInputLeft, ReadsFor, WritesFor, WritesPart, WritesText};
-ghost use Rattle.m88_base.specs.Outside.{GivesAll, IsWhole};
+ghost use Rattle.m88_base.specs.Filter.{AnswersFor, IsInputLeft, ReadsFor, WritesFor};
+ghost use Rattle.m88_base.specs.Outside.{GivesAll};
 ghost use Rattle.m88_base.specs.Reading.{ReadsSource};
 ghost use Rattle.m88_base.specs.Status.{Answers, IsOfReading};
 ghost use Rattle.m88_serving.specs.Laws.{EachDmtIsOfAnAccess, EachFaultIsServed, EachInputHasOneVerdict, EachLeavesNoneWaiting};
-ghost use Rattle.m88_serving.specs.Served.{IsServedOrTurnedDown, IsServed, IsTurnedDown, turned_down_line};
-ghost use Rattle.m88_serving.specs.Verdict.{IsTakenCase, serve_verdict};
-ghost use Rattle.m88_serving.specs.declared.fault.ServeFault.{ServeFault as FaultValue};
+ghost use Rattle.m88_serving.specs.Served.{IsServed, IsTurnedDown};
+ghost use Rattle.m88_serving.specs.Verdict.{IsTakenCase};
 ghost use Rattle.m88_serving.specs.Inside.Replies.{RepliesServed};
 
 use crate::reply::reply_to;
@@ -32,27 +31,12 @@ pub fn m88serve<S: Source, K: Sink>(
     ensures reading { ReadsFor S.left S.calls S.faults source.old source.new result }
     ensures writing { WritesFor K.faults sink.old sink.new result }
 
-    // The input is accepted, was read to its end, and the sink was given what a handler must come to, by no more
-    // calls than that has bytes.
-    ensures done { result ≡ Status.Done
-        → AnswersInput (S.left source.old) (S.left source.new) IsServed
-        (WritesText K.held K.calls sink.old sink.new) }
-
-    // The input is not accepted, and the sink was given the line that says so in the same way; an input whose line
-    // stands whole in the sink was refused.
-    ensures refused { result ≡ Status.Refused
-        → AnswersInput (S.left source.old) (S.left source.new) IsTurnedDown
-        (WritesText K.held K.calls sink.old sink.new) }
-    ensures refusal { (bytes : List ℕ) (fault : FaultValue) → serve_verdict bytes ≡ Err fault
-        → S.left source.old ≡ Some bytes → S.left source.new ≡ Some []
-        → IsWhole (K.held sink.old) (K.held sink.new) (turned_down_line fault)
-        → result ≡ Status.Refused }
-
-    // The sink failed, and was given a front of the text that lacks at least one byte, by no more calls than the
-    // text has bytes.
-    ensures part { result ≡ Status.SinkFault
-        → AnswersInput (S.left source.old) (S.left source.new) IsServedOrTurnedDown
-        (WritesPart K.held K.calls sink.old sink.new) }
+    // Done: the input was read to its end and is accepted, and the sink was given what a handler must come to.
+    // Refused: it was read to its end and is refused, and the sink was given the line that says so. SinkFault: the
+    // sink was given a front of either text, at least one byte short. No text took more calls than it has bytes. An
+    // input whose refusal stands whole in the sink was refused.
+    ensures answers { AnswersFor S.left K.held K.calls source.old source.new sink.old sink.new
+        IsServed IsTurnedDown result }
 
     // Without words, and where nothing failed, an input that is not too long is answered: Done if it is
     // accepted, Refused if it is not, or Memory.

@@ -1,22 +1,21 @@
 -- An input is accepted, or refused for one reason, never both; it is one image and has one text.
 use Rattle.std.proofs.Common.{◌≡◌, ◌⊎◌, ◌∙◌, ℕ, ◌+◌, ◌-◌, ◌<◌, ◌^◌, Bool, true, false, List, [], None, Option, Some, ap, arith, inl, inr, length, refl, get_or, slice_get, subst, sym, IfSome}
 use Rattle.std.specs.Prelude.{MatchBool}
-use Rattle.std.proofs.KnownBytes.{Consumes-whole}
 use Rattle.std.proofs.lemmas.Bool.{cases_lt}
 use Rattle.std.proofs.lemmas.Option.{slice_get-get_or}
-use Rattle.m88_base.proofs.Laws.{byte_in_at, same_images}
+use Rattle.m88_base.proofs.Laws.{AreVerdicts, byte_in_at, same_images}
 use Rattle.m88_base.specs.Image.{IsImage, ProgramImage, byte_at}
 use Rattle.m88_base.specs.OneVerdict.{HasOneFaultUnless}
-use Rattle.m88_base.specs.Outside.{GivesAll}
+use Rattle.m88_base.specs.Reply.{AnswersAs}
 use Rattle.m88_base.specs.Placed.{byte_in}
 use Rattle.m88_base.specs.Refusal.{Refusal, refusal_line}
 use Rattle.m88_base.specs.declared.reply.Reply.{Reply}
 use Rattle.m88_srec.proofs.Laws.{one_record_verdict, verdict_takes}
 use Rattle.m88_srec.specs.Accepted.{Whole, whole_of}
-use Rattle.m88_sourcing.specs.Answer.{Sources, SourcesAccepted, SourcesRefused}
+use Rattle.m88_sourcing.specs.Answer.{AsAsked, Sources, SourcesAccepted, SourcesRefused}
 use Rattle.m88_sourcing.specs.Inputs.{IsAcceptedIn, IsImageIn, IsRefusedIn, binary_refusal, records_refusal}
 use Rattle.m88_sourcing.specs.Inside.Replies.{SourcesAs}
-use Rattle.m88_sourcing.specs.Request.{Request}
+use Rattle.m88_sourcing.specs.Request.{Asks, Request}
 use Rattle.m88_sourcing.specs.Source.{IsSource}
 use Rattle.m88_sourcing.proofs.OneSource.{one_source}
 
@@ -93,32 +92,34 @@ one_answer request input a b (inr x) (inl y) =
 one_answer request input a b (inr x) (inr y) =
     x.is_text ∙ ap refusal_line (one_refusal request.at input x.refusal y.refusal x.refused y.refused) ∙ sym y.is_text
 
--- a reply to what a source gave is one to what it had, asked in the same words
-pub reply_given : (before after : Option (List ℕ)) (input : List ℕ) (asked request : Request) (reply : Reply)
-    → asked ≡ request → before ≡ Some input
-    → (given : List ℕ) × GivesAll before after given × SourcesAs asked given reply → SourcesAs request input reply
-reply_given before after input asked request reply same had ok =
-    subst (λ (r : Request). SourcesAs r input reply) same
-    (subst (λ left. IfSome left (λ source. SourcesAs asked source reply)) had
-    (Consumes-whole before after ok.0 (λ source. SourcesAs asked source reply) ok.1.0 ok.1.1 ok.2))
+-- a refusal has a byte
+pub sourced_some : (words : List (List ℕ)) (input text : List ℕ) → AsAsked words SourcesRefused input text → 0 < length text
+sourced_some words input text h =
+    let some : 0 < length (refusal_line h.is_text.refusal) = omega arith in
+    subst (λ (t : List ℕ). 0 < length t) (sym h.is_text.is_text) some
 
--- the reply's text answers the input
-by_accepted : (accepted : Bool) (request : Request) (input text : List ℕ)
+-- where words ask for one thing, an input isn't accepted and refused, and one that is refused has one text
+pub source_verdicts : (words : List (List ℕ)) (known : Request) → ((r : Request) → Asks words r → known ≡ r)
+    → AreVerdicts (AsAsked words SourcesAccepted) (AsAsked words SourcesRefused)
+source_verdicts words known only = record {
+  not_both = λ input a b accepted refused.
+      let same : accepted.request ≡ refused.request = sym (only accepted.request accepted.asked) ∙ only refused.request refused.asked in
+      let told = subst (λ (r : Request). SourcesAccepted r input a) same accepted.is_text in
+      not_both refused.request.at input refused.is_text.refusal
+      (accepted_in refused.request.at input told.image told.is_image) refused.is_text.refused;
+  one_refusal = λ input a b x y.
+      let same : x.request ≡ y.request = sym (only x.request x.asked) ∙ only y.request y.asked in
+      one_answer y.request input a b (inr (subst (λ (r : Request). SourcesRefused r input a) same x.is_text)) (inr y.is_text);
+}
+
+-- a reply to what is asked is one to the words
+by_words : (words : List (List ℕ)) (request : Request) (input text : List ℕ) → Asks words request → (accepted : Bool)
     → MatchBool accepted (SourcesAccepted request input text) (SourcesRefused request input text)
-    → Sources request input text
-by_accepted true request input text h = inl h
-by_accepted false request input text h = inr h
+    → MatchBool accepted (AsAsked words SourcesAccepted input text) (AsAsked words SourcesRefused input text)
+by_words words request input text asks true h = record { request = request; asked = asks; is_text = h }
+by_words words request input text asks false h = record { request = request; asked = asks; is_text = h }
 
-pub answer_of : (request : Request) (input : List ℕ) (reply : Reply) → SourcesAs request input reply
-    → Sources request input reply.text.items
-answer_of request input reply h = by_accepted reply.accepted request input reply.text.items h
-
--- the reply to an input that is refused is the line of that refusal
-pub line_of_reply : (request : Request) (input : List ℕ) (r : Refusal) (reply : Reply) → IsRefusedIn request.at input r
-    → SourcesAs request input reply → reply.text.items ≡ refusal_line r
-line_of_reply request input r reply refused h =
-    one_answer request input reply.text.items (refusal_line r) (answer_of request input reply h)
-    (inr (record { refusal = r; refused = refused; is_text = refl }))
-
-pub refusal_some : (r : Refusal) → 0 < length (refusal_line r)
-refusal_some r = omega arith
+pub reply_sourced : (words : List (List ℕ)) (request : Request) (input : List ℕ) (reply : Reply) → Asks words request
+    → SourcesAs request input reply
+    → AnswersAs (AsAsked words SourcesAccepted input) (AsAsked words SourcesRefused input) reply
+reply_sourced words request input reply asks h = by_words words request input reply.text.items asks reply.accepted h

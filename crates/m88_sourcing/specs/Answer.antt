@@ -3,7 +3,7 @@ use Rattle.std.specs.Prelude.{◌≡◌, ◌⊎◌, ℕ, List}
 use Rattle.m88_base.specs.Image.{ProgramImage}
 use Rattle.m88_base.specs.Refusal.{Refusal, refusal_line}
 use Rattle.m88_sourcing.specs.Inputs.{IsImageIn, IsRefusedIn}
-use Rattle.m88_sourcing.specs.Request.{Request}
+use Rattle.m88_sourcing.specs.Request.{Asks, Request}
 use Rattle.m88_sourcing.specs.Source.{IsSource}
 
 -- the text is the source of the image that the input is
@@ -21,3 +21,10 @@ pub record SourcesRefused (request : Request) (input text : List ℕ) : Type 0 w
 -- the text answers the input, which is accepted or refused
 abbrev pub Sources : Request → List ℕ → List ℕ → Type 0
 Sources request input text = SourcesAccepted request input text ⊎ SourcesRefused request input text
+
+-- the words ask for something, and the text of the input is as told for that
+pub record AsAsked (words : List (List ℕ)) (IsText : Request → List ℕ → List ℕ → Type 0)
+    (input text : List ℕ) : Type 0 where
+  pub request : Request
+  pub asked : Asks words request
+  pub is_text : IsText request input text

@@ -10,5 +10,4 @@ pub mod Laws
 pub mod Request
 pub mod Inputs
 pub mod Answer
-pub mod Calls
 pub mod Inside

@@ -1,14 +1,12 @@
 //! The top call.
-ghost use Rattle.std.specs.Prelude.{[], ◌≡◌, ◌↔◌, ℕ, IfErr, IfOk, List, Option, Some};
+ghost use Rattle.std.specs.Prelude.{◌≡◌, ◌↔◌, ℕ, IfErr, IfOk, List, Option};
 ghost use Rattle.m88_base.specs.Causes.{Rose};
-ghost use Rattle.m88_base.specs.Filter.{IsInputLeft, ReadsFor, WritesFor, WritesPart, WritesText};
+ghost use Rattle.m88_base.specs.Filter.{AnswersFor, IsInputLeft, ReadsFor, WritesFor};
 ghost use Rattle.m88_base.specs.OneVerdict.{HasOneFaultUnless};
-ghost use Rattle.m88_base.specs.Outside.{GivesAll, IsWhole};
+ghost use Rattle.m88_base.specs.Outside.{GivesAll};
 ghost use Rattle.m88_base.specs.Reading.{ReadsSource};
-ghost use Rattle.m88_base.specs.Refusal.{Refusal, refusal_line};
 ghost use Rattle.m88_base.specs.Status.{Answers, IsOfReading};
-ghost use Rattle.m88_sourcing.specs.Answer.{Sources, SourcesAccepted, SourcesRefused};
-ghost use Rattle.m88_sourcing.specs.Calls.{IsSourced};
+ghost use Rattle.m88_sourcing.specs.Answer.{AsAsked, Sources, SourcesAccepted, SourcesRefused};
 ghost use Rattle.m88_sourcing.specs.Inputs.{IsAcceptedIn, IsRefusedIn};
 ghost use Rattle.m88_sourcing.specs.Inside.Asked.{asked};
 ghost use Rattle.m88_sourcing.specs.Inside.Replies.{IsInputRead, SourcesAs};
@@ -43,28 +41,13 @@ pub fn m88source<S: Source, K: Sink>(
     ensures reading { ReadsFor S.left S.calls S.faults source.old source.new result }
     ensures writing { WritesFor K.faults sink.old sink.new result }
 
-    // The input is accepted, was read to its end, and the sink was given its source, by no more calls than that
-    // has bytes.
-    ensures done { result ≡ Status.Done
-        → IsSourced (words_of_call words.now) (S.left source.old) (S.left source.new) SourcesAccepted
-        (WritesText K.held K.calls sink.old sink.new) }
-
-    // The input is not accepted, and the sink was given the line that says so in the same way; an input whose
-    // refusal stands whole in the sink was refused.
-    ensures refused { result ≡ Status.Refused
-        → IsSourced (words_of_call words.now) (S.left source.old) (S.left source.new) SourcesRefused
-        (WritesText K.held K.calls sink.old sink.new) }
-    ensures refusal { (request : Asked) (bytes : List ℕ) (refusal : Refusal)
-        → Asks (words_of_call words.now) request → IsRefusedIn request.at bytes refusal
-        → S.left source.old ≡ Some bytes → S.left source.new ≡ Some []
-        → IsWhole (K.held sink.old) (K.held sink.new) (refusal_line refusal)
-        → result ≡ Status.Refused }
-
-    // The sink failed, and was given a front of the text that lacks at least one byte, by no more calls than the
-    // text has bytes.
-    ensures part { result ≡ Status.SinkFault
-        → IsSourced (words_of_call words.now) (S.left source.old) (S.left source.new) Sources
-        (WritesPart K.held K.calls sink.old sink.new) }
+    // Done: the input was read to its end and is accepted, and the sink was given its source. Refused: it was read to
+    // its end and is refused, and the sink was given the line that says so. SinkFault: the sink was given a front of
+    // either text, at least one byte short. No text took more calls than it has bytes. An input whose refusal stands
+    // whole in the sink was refused.
+    ensures answers { AnswersFor S.left K.held K.calls source.old source.new sink.old sink.new
+        (AsAsked (words_of_call words.now) SourcesAccepted)
+        (AsAsked (words_of_call words.now) SourcesRefused) result }
 
     // Where the words ask for something and nothing failed, an input that is not too long is answered: Done if
     // it is accepted, Refused if it is not, or Memory.

@@ -1,59 +1,37 @@
 -- What is written is the reply, whole or a part of it.
-use Rattle.std.proofs.Common.{subst}
-use Rattle.m88_base.proofs.Laws.{answered, not_part, not_whole, only_refused}
-use Rattle.m88_base.specs.Outside.{AppendsPart}
+use Rattle.m88_base.proofs.Laws.{answers_input, answers_nothing, answers_reply, none_of_reading}
 use Rattle.m88_asm.proofs.Laws.{not_linked, one_program_verdict}
 use Rattle.m88_asm.specs.Sources.{IsProgramSource}
+use Rattle.m88_listing.specs.Answer.{ListsRefused}
+use Rattle.m88_listing.specs.Listing.{ListsAccepted}
 use Rattle.m88_listing.proofs.Numbering.{each_line_stands_once}
 use Rattle.m88_listing.proofs.Showing.{each_shows_its_image}
-use Rattle.m88_listing.proofs.Verdict.{one_text, refused_plainly}
-use Rattle.m88_listing.proofs.Whole.{lists_of, reply_given, text_of_reply, text_some}
+use Rattle.m88_listing.proofs.Verdict.{list_verdicts, one_text, refused_plainly}
+use Rattle.m88_listing.proofs.Whole.{text_some}
 use Rattle.m88_listing.proofs.program.m88list.Goals as goal
 
-pub returns-then-not-is_empty-clause-refusal : goal.returns-then-not-is_empty-clause-refusal
-returns-then-not-is_empty-clause-refusal g c = λ bytes text refused had left whole.
-    absurd (not_whole _ text (text_some bytes text refused) whole)
+pub returns-then-not-is_empty-clause-answers : goal.returns-then-not-is_empty-clause-answers
+returns-then-not-is_empty-clause-answers g c =
+    answers_nothing g.S.Source.left g.K.Sink.held g.K.Sink.calls ListsAccepted ListsRefused _ _ _ _ text_some tt
 
-pub returns-in-Err-clause-refusal : goal.returns-in-Err-clause-refusal
-returns-in-Err-clause-refusal g c = λ bytes text refused had left whole.
-    absurd (not_whole _ text (text_some bytes text refused) whole)
+pub returns-in-Err-clause-answers : goal.returns-in-Err-clause-answers
+returns-in-Err-clause-answers g c =
+    answers_nothing g.S.Source.left g.K.Sink.held g.K.Sink.calls ListsAccepted ListsRefused _ _ _ _ text_some
+    (none_of_reading c.in-Err.status c.in-Err.ensures.status)
 
-pub returns-in-Ok-clause-refusal : goal.returns-in-Ok-clause-refusal
-returns-in-Ok-clause-refusal g c = λ bytes text refused had left whole.
-    let replies = reply_given _ _ bytes c.in-Ok.reply had c.in-Ok.ensures.ok in
-    let same = text_of_reply bytes text c.in-Ok.reply refused replies in
-    only_refused c.write_to.result c.write_to.ensures.written
-    (λ e. let done = c.write_to.ensures.done e in
-    not_linked 0 bytes refused.refusal (rw done.0 at replies).accepted (refused_plainly bytes refused.refusal refused.rows refused.refused))
-    (λ e. not_part _ _ text
-    (subst (λ t. AppendsPart (g.K.Sink.held c.args.sink.now) (g.K.Sink.held c.write_to.new.sink) t) same (c.write_to.ensures.part e)) whole)
+pub returns-in-Ok-clause-answers : goal.returns-in-Ok-clause-answers
+returns-in-Ok-clause-answers g c =
+    answers_reply g.S.Source.left g.K.Sink.held g.K.Sink.calls ListsAccepted ListsRefused _ _ _ _ c.in-Ok.reply _
+    c.in-Ok.ensures.ok c.write_to.ensures.written c.write_to.ensures.done c.write_to.ensures.refused
+    list_verdicts c.write_to.ensures.calls c.write_to.ensures.part
 
 pub returns-in-Ok-clause-complete : goal.returns-in-Ok-clause-complete
 returns-in-Ok-clause-complete g c = λ bytes none had unbroken unfailing.
-    let replies = reply_given _ _ bytes c.in-Ok.reply had.0 c.in-Ok.ensures.ok in
-    answered (IsProgramSource bytes) c.write_to.result c.write_to.ensures.written
-    (λ e. let done = c.write_to.ensures.done e in (rw done.0 at replies).accepted)
-    (λ e. let refused = c.write_to.ensures.refused e in
-    let told = rw refused.0 at replies in
-    λ accepted. not_linked 0 bytes told.refusal accepted (refused_plainly bytes told.refusal told.rows told.refused))
+    answers_input g.S.Source.left g.K.Sink.held g.K.Sink.calls ListsAccepted ListsRefused _ _ _ _ c.in-Ok.reply _
+    c.in-Ok.ensures.ok c.write_to.ensures.written c.write_to.ensures.done c.write_to.ensures.refused
+    (IsProgramSource bytes) bytes had.0 (λ told. told.accepted)
+    (λ told accepted. not_linked 0 bytes told.refusal accepted (refused_plainly bytes told.refusal told.rows told.refused))
     (λ e. unfailing (c.write_to.ensures.sink_fault e))
-
-pub returns-in-Ok-clause-done : goal.returns-in-Ok-clause-done
-returns-in-Ok-clause-done g c = λ e.
-    let ok = c.in-Ok.ensures.ok in
-    let done = c.write_to.ensures.done e in
-    record { input = ok.0; given = ok.1; text = c.in-Ok.reply.text.items; is_text = rw done.0 at ok.2; written = (done.1, c.write_to.ensures.calls) }
-
-pub returns-in-Ok-clause-refused : goal.returns-in-Ok-clause-refused
-returns-in-Ok-clause-refused g c = λ e.
-    let ok = c.in-Ok.ensures.ok in
-    let refused = c.write_to.ensures.refused e in
-    record { input = ok.0; given = ok.1; text = c.in-Ok.reply.text.items; is_text = rw refused.0 at ok.2; written = (refused.1, c.write_to.ensures.calls) }
-
-pub returns-in-Ok-clause-part : goal.returns-in-Ok-clause-part
-returns-in-Ok-clause-part g c = λ e.
-    let ok = c.in-Ok.ensures.ok in
-    record { input = ok.0; given = ok.1; text = c.in-Ok.reply.text.items; is_text = lists_of ok.0 c.in-Ok.reply ok.2; written = (c.write_to.ensures.part e, c.write_to.ensures.calls) }
 
 pub returns-then-not-is_empty-clause-image : goal.returns-then-not-is_empty-clause-image
 returns-then-not-is_empty-clause-image g c = each_shows_its_image

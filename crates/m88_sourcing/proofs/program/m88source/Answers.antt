@@ -1,82 +1,57 @@
 -- What is written is the reply, whole or a part of it, and a refusal stands whole only where it was written whole.
 use Rattle.std.proofs.Common.{◌≡◌, ◌∙◌, subst, sym}
-use Rattle.m88_base.proofs.Laws.{answered, not_part, not_whole, only_refused}
-use Rattle.m88_base.specs.Outside.{AppendsPart}
-use Rattle.m88_base.specs.Refusal.{refusal_line}
+use Rattle.m88_base.proofs.Laws.{answers_input, answers_nothing, answers_reply, none_of_reading}
+use Rattle.m88_sourcing.specs.Answer.{AsAsked, SourcesAccepted, SourcesRefused}
 use Rattle.m88_sourcing.specs.Inputs.{IsAcceptedIn}
 use Rattle.m88_sourcing.specs.Inside.Asked.{asked}
+use Rattle.m88_sourcing.specs.Request.{Asks, Request, words_of_call}
 use Rattle.m88_sourcing.proofs.Lengthening.{keeps_branches}
 use Rattle.m88_sourcing.proofs.Rebuilt.{source_again}
 use Rattle.m88_sourcing.proofs.Targeting.{names_targets}
-use Rattle.m88_sourcing.proofs.Verdicts.{accepted_in, answer_of, line_of_reply, not_both, one_answer, one_verdict_in, refusal_some, reply_given}
+use Rattle.m88_sourcing.proofs.Verdicts.{accepted_in, not_both, one_answer, one_verdict_in, reply_sourced, source_verdicts, sourced_some}
 use Rattle.m88_sourcing.proofs.program.m88source.Goals as goal
 
-pub returns-in_default-clause-refusal : goal.returns-in_default-clause-refusal
-returns-in_default-clause-refusal g c = λ request bytes refusal asks refused had left whole.
-    absurd (c.in_default.ensures.only request asks)
+pub returns-in_default-clause-answers : goal.returns-in_default-clause-answers
+returns-in_default-clause-answers g c =
+    let words = words_of_call c.args.words.now in
+    answers_nothing g.S.Source.left g.K.Sink.held g.K.Sink.calls (AsAsked words SourcesAccepted) (AsAsked words SourcesRefused)
+    _ _ _ _ (sourced_some words) tt
+
+pub returns-in-Err-clause-answers : goal.returns-in-Err-clause-answers
+returns-in-Err-clause-answers g c =
+    let words = words_of_call c.args.words.now in
+    answers_nothing g.S.Source.left g.K.Sink.held g.K.Sink.calls (AsAsked words SourcesAccepted) (AsAsked words SourcesRefused)
+    _ _ _ _ (sourced_some words) (none_of_reading c.in-Err.status c.in-Err.ensures.status)
+
+pub returns-in-Ok-clause-answers : goal.returns-in-Ok-clause-answers
+returns-in-Ok-clause-answers g c =
+    let words = words_of_call c.args.words.now in
+    let known = asked c.in-Some.request in
+    let ok = c.in-Ok.ensures.ok in
+    answers_reply g.S.Source.left g.K.Sink.held g.K.Sink.calls (AsAsked words SourcesAccepted) (AsAsked words SourcesRefused)
+    _ _ _ _ c.in-Ok.reply _ (ok.0, ok.1, reply_sourced words known ok.0 c.in-Ok.reply c.in-Some.ensures.found ok.2)
+    c.write_to.ensures.written c.write_to.ensures.done c.write_to.ensures.refused
+    (source_verdicts words known c.in-Some.ensures.only) c.write_to.ensures.calls c.write_to.ensures.part
 
 pub returns-in_default-clause-complete : goal.returns-in_default-clause-complete
 returns-in_default-clause-complete g c = λ request bytes asks holds sound unfailing.
     absurd (c.in_default.ensures.only request asks)
 
-pub returns-in-Err-clause-refusal : goal.returns-in-Err-clause-refusal
-returns-in-Err-clause-refusal g c = λ request bytes refusal asks refused had left whole.
-    absurd (not_whole _ (refusal_line refusal) (refusal_some refusal) whole)
-
-pub returns-in-Ok-clause-refusal : goal.returns-in-Ok-clause-refusal
-returns-in-Ok-clause-refusal g c = λ request bytes refusal asks refused had left whole.
-    let same : asked c.in-Some.request ≡ request = c.in-Some.ensures.only request asks in
-    let replies = reply_given _ _ bytes (asked c.in-Some.request) request c.in-Ok.reply same had c.in-Ok.ensures.ok in
-    let text = line_of_reply request bytes refusal c.in-Ok.reply refused replies in
-    only_refused c.write_to.result c.write_to.ensures.written
-    (λ e. let done = c.write_to.ensures.done e in
-    let told = rw done.0 at replies in
-    not_both request.at bytes refusal (accepted_in request.at bytes told.image told.is_image) refused)
-    (λ e. not_part _ _ (refusal_line refusal)
-    (subst (λ t. AppendsPart (g.K.Sink.held c.args.sink.now) (g.K.Sink.held c.write_to.new.sink) t) text
-    (c.write_to.ensures.part e)) whole)
-
 pub returns-in-Ok-clause-complete : goal.returns-in-Ok-clause-complete
 returns-in-Ok-clause-complete g c = λ request bytes asks holds sound unfailing.
-    let same : asked c.in-Some.request ≡ request = c.in-Some.ensures.only request asks in
-    let replies = reply_given _ _ bytes (asked c.in-Some.request) request c.in-Ok.reply same holds.0 c.in-Ok.ensures.ok in
-    answered (IsAcceptedIn request.at bytes) c.write_to.result c.write_to.ensures.written
-    (λ e. let done = c.write_to.ensures.done e in
-    let told = rw done.0 at replies in
-    accepted_in request.at bytes told.image told.is_image)
-    (λ e. let refused = c.write_to.ensures.refused e in
-    let told = rw refused.0 at replies in
-    λ accepted. not_both request.at bytes told.refusal accepted told.refused)
+    let words = words_of_call c.args.words.now in
+    let known = asked c.in-Some.request in
+    let ok = c.in-Ok.ensures.ok in
+    let one : (r : Request) (asks_it : Asks words r) → r ≡ request =
+    λ r asks_it. sym (c.in-Some.ensures.only r asks_it) ∙ c.in-Some.ensures.only request asks in
+    answers_input g.S.Source.left g.K.Sink.held g.K.Sink.calls (AsAsked words SourcesAccepted) (AsAsked words SourcesRefused)
+    _ _ _ _ c.in-Ok.reply _ (ok.0, ok.1, reply_sourced words known ok.0 c.in-Ok.reply c.in-Some.ensures.found ok.2)
+    c.write_to.ensures.written c.write_to.ensures.done c.write_to.ensures.refused (IsAcceptedIn request.at bytes) bytes holds.0
+    (λ told. subst (λ (r : Request). IsAcceptedIn r.at bytes) (one told.request told.asked)
+    (accepted_in told.request.at bytes told.is_text.image told.is_text.is_image))
+    (λ told accepted. not_both told.request.at bytes told.is_text.refusal
+    (subst (λ (r : Request). IsAcceptedIn r.at bytes) (sym (one told.request told.asked)) accepted) told.is_text.refused)
     (λ e. unfailing (c.write_to.ensures.sink_fault e))
-
-pub returns-in-Ok-clause-done : goal.returns-in-Ok-clause-done
-returns-in-Ok-clause-done g c = λ e.
-    let ok = c.in-Ok.ensures.ok in
-    let done = c.write_to.ensures.done e in
-    record {
-      request = asked c.in-Some.request;
-      asked = c.in-Some.ensures.found;
-      answered = record { input = ok.0; given = ok.1; text = c.in-Ok.reply.text.items; is_text = rw done.0 at ok.2; written = (done.1, c.write_to.ensures.calls) };
-    }
-
-pub returns-in-Ok-clause-refused : goal.returns-in-Ok-clause-refused
-returns-in-Ok-clause-refused g c = λ e.
-    let ok = c.in-Ok.ensures.ok in
-    let refused = c.write_to.ensures.refused e in
-    record {
-      request = asked c.in-Some.request;
-      asked = c.in-Some.ensures.found;
-      answered = record { input = ok.0; given = ok.1; text = c.in-Ok.reply.text.items; is_text = rw refused.0 at ok.2; written = (refused.1, c.write_to.ensures.calls) };
-    }
-
-pub returns-in-Ok-clause-part : goal.returns-in-Ok-clause-part
-returns-in-Ok-clause-part g c = λ e.
-    let ok = c.in-Ok.ensures.ok in
-    record {
-      request = asked c.in-Some.request;
-      asked = c.in-Some.ensures.found;
-      answered = record { input = ok.0; given = ok.1; text = c.in-Ok.reply.text.items; is_text = answer_of (asked c.in-Some.request) ok.0 c.in-Ok.reply ok.2; written = (c.write_to.ensures.part e, c.write_to.ensures.calls) };
-    }
 
 pub returns-in_default-clause-one_request : goal.returns-in_default-clause-one_request
 returns-in_default-clause-one_request g c = λ a b first second. absurd (c.in_default.ensures.only a first)
