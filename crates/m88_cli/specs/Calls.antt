@@ -11,20 +11,6 @@ abbrev pub GivesInput : Command → Option (List ℕ) → Option (List ℕ) → 
 GivesInput command before after input =
     MatchBool (reads_input command) (GivesAll before after input) (input ≡ [])
 
--- a call carried a command out: the words spell it, the source gave it its input, the text is as told for that input,
--- the sink was given the text as told, and the watch was shown what is told
-pub record CarriedOut (words : List (List ℕ)) (before after : Option (List ℕ))
-    (IsText : Command → List ℕ → List ℕ → Type 0) (SinkIsGiven : List ℕ → Type 0)
-    (WatchIsShown : Command → List ℕ → Type 0) : Type 0 where
-  pub command : Command
-  pub spelled : Spells words command
-  pub input : List ℕ
-  pub given : GivesInput command before after input
-  pub text : List ℕ
-  pub is_text : IsText command input text
-  pub written : SinkIsGiven text
-  pub watched : WatchIsShown command input
-
 -- the words spell a command, the source gave it its input, and something holds of these two
 pub record Given (words : List (List ℕ)) (before after : Option (List ℕ))
     (Holds : Command → List ℕ → Type 0) : Type 0 where
@@ -33,6 +19,13 @@ pub record Given (words : List (List ℕ)) (before after : Option (List ℕ))
   pub input : List ℕ
   pub given : GivesInput command before after input
   pub holds : Holds command input
+
+-- a command was spelled, given its input and carried out: a text is as told for it, the sink was given that text as
+-- told, and the watch was shown what is told
+abbrev pub CarriedOut : List (List ℕ) → Option (List ℕ) → Option (List ℕ) → (Command → List ℕ → List ℕ → Type 0)
+    → (List ℕ → Type 0) → (Command → List ℕ → Type 0) → Type 0
+CarriedOut words before after IsText SinkIsGiven WatchIsShown = Given words before after (λ command input.
+    (text : List ℕ) × IsText command input text × SinkIsGiven text × WatchIsShown command input)
 
 -- what a source has left is the input for a command, and not too long; a command that reads none has the empty input
 abbrev pub HasInput : Command → Option (List ℕ) → List ℕ → Type 0

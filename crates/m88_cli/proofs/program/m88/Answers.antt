@@ -155,10 +155,7 @@ returns-in-Ok-clause-done g c = λ e.
       spelled = c.in-Some.ensures.found;
       input = ok.0;
       given = ok.1;
-      text = c.in-Ok.reply.text.items;
-      is_text = rw done.0 at ok.2;
-      written = (done.1, c.write_to.ensures.calls);
-      watched = rw done.0 at ok.3;
+      holds = (c.in-Ok.reply.text.items, rw done.0 at ok.2, (done.1, c.write_to.ensures.calls), rw done.0 at ok.3);
     }
 
 pub returns-in-Ok-clause-refused : goal.returns-in-Ok-clause-refused
@@ -170,10 +167,7 @@ returns-in-Ok-clause-refused g c = λ e.
       spelled = c.in-Some.ensures.found;
       input = ok.0;
       given = ok.1;
-      text = c.in-Ok.reply.text.items;
-      is_text = rw refused.0 at ok.2;
-      written = (refused.1, c.write_to.ensures.calls);
-      watched = rw refused.0 at ok.3;
+      holds = (c.in-Ok.reply.text.items, rw refused.0 at ok.2, (refused.1, c.write_to.ensures.calls), rw refused.0 at ok.3);
     }
 
 pub returns-in-Ok-clause-part : goal.returns-in-Ok-clause-part
@@ -184,11 +178,13 @@ returns-in-Ok-clause-part g c = λ e.
       spelled = c.in-Some.ensures.found;
       input = ok.0;
       given = ok.1;
-      text = c.in-Ok.reply.text.items;
-      is_text = by_accepted c.in-Ok.reply.accepted (command_of c.in-Some.command) ok.0 c.in-Ok.reply.text.items ok.2;
-      written = (c.write_to.ensures.part e, c.write_to.ensures.calls);
-      watched = by_reply c.in-Ok.reply.accepted g.W.Watch.seen c.args.watch.now c.reply_from.new.watch
-          (command_of c.in-Some.command) ok.0 c.in-Ok.reply.text.items ok.2 ok.3;
+      holds = (
+        c.in-Ok.reply.text.items,
+        by_accepted c.in-Ok.reply.accepted (command_of c.in-Some.command) ok.0 c.in-Ok.reply.text.items ok.2,
+        (c.write_to.ensures.part e, c.write_to.ensures.calls),
+        by_reply c.in-Ok.reply.accepted g.W.Watch.seen c.args.watch.now c.reply_from.new.watch
+            (command_of c.in-Some.command) ok.0 c.in-Ok.reply.text.items ok.2 ok.3,
+      );
     }
 
 pub returns-in-Err-clause-complete : goal.returns-in-Err-clause-complete
