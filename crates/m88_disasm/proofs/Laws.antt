@@ -9,10 +9,10 @@ pub use Rattle.m88_disasm.proofs.PlainInstructions.{IsPlain, plain_immediate, pl
 -- lines that are such instructions are a source that is accepted, and short
 pub use Rattle.m88_disasm.proofs.PlainSources.{plain_length, plain_source}
 -- what a line, its parts and its statement are, for those that write lines of other kinds
-pub use Rattle.m88_disasm.proofs.Parts.{AreGood, IsGood, Part, are_parted, are_printed, is_mark_part, is_printed, line_pieces, line_printed, line_tokens, name_is_printed, operation_named, part_hex, part_mark, part_name, part_number, part_text, parts_text, piece_of, pieces, word_name, word_part_good}
+pub use Rattle.m88_disasm.proofs.Parts.{AreGood, Part, are_parted, are_printed, is_printed, name_is_printed, part_hex, part_mark, part_name, part_number, part_text, parts_text, piece_of, pieces, word_name, word_part_good}
 pub use Rattle.m88_disasm.proofs.Spoken.{ConditionPart, Spoken, SpokenAs, comma, comma_good, condition_part, reg_good, reg_part, said_byte, said_instr, said_place, said_start, start_symbol, says_body, says_waiting, spoken}
 pub use Rattle.m88_disasm.proofs.Forms.{behind}
-pub use Rattle.m88_disasm.proofs.Rows.{Stated, stated_behind, unit_is, unit_of}
+pub use Rattle.m88_disasm.proofs.Rows.{AreRead, Stated, read_all, read_none, read_one, read_stated, read_unit, stated_behind, unit_is, unit_of}
 -- statements that give the bytes of parts and name addresses are a source of these parts
 pub use Rattle.m88_disasm.proofs.Given.{Data, Gives, IsUse, Means, Names, PartsData, Sets, a_set, data_behind, more_data, more_parts, no_data, no_parts, no_set}
 pub use Rattle.m88_disasm.proofs.Bodies.{ArePieces, AreBytes, gives_byte, gives_instr, pieces_of}

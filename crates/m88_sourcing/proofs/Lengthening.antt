@@ -15,7 +15,7 @@ use Rattle.m88_asm.specs.Accepted.{IsAcceptedUnit}
 use Rattle.m88_asm.specs.Counters.{length_at}
 use Rattle.m88_asm.specs.Objects.{sets_at}
 use Rattle.m88_disasm.specs.Listing.{place_line}
-use Rattle.m88_disasm.proofs.Laws.{ArePieces, pieces_of, said_place, spoken, unit_of}
+use Rattle.m88_disasm.proofs.Laws.{AreRead, ArePieces, pieces_of, read_all, read_one, read_stated, read_unit, said_place, spoken, unit_of}
 use Rattle.m88_sourcing.specs.Code.{IsCode}
 use Rattle.m88_sourcing.specs.Insertion.{IsInserted, MovesCodeAlone}
 use Rattle.m88_sourcing.specs.Laws.{EachKeepsItsBranches}
@@ -24,7 +24,7 @@ use Rattle.m88_sourcing.proofs.Inserted.{moves_alone}
 use Rattle.m88_sourcing.proofs.Lengthened.{Longer, LongerParts, longer_parts, put_behind}
 use Rattle.m88_sourcing.proofs.Parted.{Parted, parted}
 use Rattle.m88_sourcing.proofs.Rebuilt.{Front, code_some, each_part, front, in_part}
-use Rattle.m88_sourcing.proofs.Rowed.{AreRead, in_line, read_all, read_one, read_stated, read_unit, said_in}
+use Rattle.m88_sourcing.proofs.Rowed.{in_line, said_in}
 use Rattle.m88_sourcing.proofs.Runs.{InParts}
 use Rattle.m88_sourcing.proofs.Skeleton.{IsTame, bare}
 

@@ -1,7 +1,7 @@
 -- What one more statement behind a word of code changes in the source of an image.
-use Rattle.std.specs.Prelude.{◌≡◌, ◌≢◌, ℕ, ℤ, ◌+◌, ◌≤◌, List, [], ◌∷◌, Option, None, Some, IsSome, ◌==◌, if◌then◌else◌}
+use Rattle.std.specs.Prelude.{◌≡◌, ℕ, ℤ, ◌+◌, ◌≤◌, List, [], ◌∷◌, Option, None, Some, IsSome, ◌==◌, if◌then◌else◌}
 use Rattle.m88_base.specs.Image.{ProgramImage, byte_at}
-use Rattle.m88_base.specs.Lines.{carriage_return, line_feed}
+use Rattle.m88_base.specs.Lines.{IsOneLine}
 use Rattle.m88_isa.specs.ImageProgram.{HasWordOf}
 use Rattle.m88_isa.specs.declared.instr.Instr.{Instr}
 use Rattle.m88_parse.specs.Language.Pieces.{Piece}
@@ -41,11 +41,6 @@ pub record IsFoundAgain (image : ProgramImage) (entries : List ℕ) (w : ℕ) (b
   pub found : IsAgainAt image entries w a at
   pub stands : HasWordOf byte at (counting words i)
   pub leads : LeadsAgain image entries w (branch_target a i) (branch_target at (counting words i))
-
--- one line: no line feed is in it, and no carriage return at its end
-abbrev pub IsOneLine : List ℕ → Type 0
-IsOneLine [] = Unit {0}
-IsOneLine (b ∷ bs) = (b ≢ line_feed) × (b ≡ carriage_return → bs ≢ []) × IsOneLine bs
 
 -- the source with one more statement in the line behind that of the word of code at w: it has four bytes wherever it
 -- stands, and no label
