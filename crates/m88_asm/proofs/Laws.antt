@@ -2,21 +2,15 @@
 
 -- A unit is accepted or has one first fault.
 pub use Rattle.m88_asm.proofs.OneUnit.{one_verdict as one_unit_verdict}
--- Images of a unit: each has the bytes that the unit's statements give, and the instructions that they say.
-pub use Rattle.m88_asm.proofs.Instructions.{bytes_law, instructions_law}
--- the sections of modules have at each address what their statements give, and a byte that one gives is found
+-- Images: the sections of modules have at each address what their statements give, and a byte that one gives is found.
 unfoldable pub use Rattle.m88_asm.proofs.Imaging.{Has}
 pub use Rattle.m88_asm.proofs.Imaging.{has_left, has_right, run_found, runs_law}
--- The layout of a unit and that of its objects: what can be linked, is linked or is refused of one is so of the other.
-pub use Rattle.m88_asm.proofs.Reaching.{linkable_law, linked_law}
-pub use Rattle.m88_asm.proofs.Layouts.{linkable_too, linked_too, refused_first, refused_too}
--- both have the same extents
+-- The layout of a unit and that of its objects have the same extents.
 pub use Rattle.m88_asm.proofs.Composing.{extents_law}
 -- the objects stand where their modules do, and so do the sections of each
 pub use Rattle.m88_asm.proofs.Composing.{all_stood, placement, same_base}
--- Objects of a unit: they are sound, and they have a text, which is that of no others.
+-- Objects of a unit: they are sound, and their text is that of no others.
 pub use Rattle.m88_asm.proofs.UnitSound.{modules_sound}
-pub use Rattle.m88_asm.proofs.ObjectTexts.{objects_have_text}
 pub use Rattle.m88_asm.proofs.Layouts.{one_text}
 -- Modules: each symbol of an accepted unit can be replaced, and statements that are all formed are formed one by one.
 pub use Rattle.m88_asm.proofs.Composing.{CanFill, EachBased, formed}
@@ -32,7 +26,7 @@ pub use Rattle.m88_asm.proofs.SourceVerdicts.{not_linked, one_assembly_verdict, 
 -- one that is accepted has one program in each mode, as bytes have one instruction at an address, or none
 pub use Rattle.m88_asm.proofs.UnitPrograms.{HasProgram, one_at, one_source_program, same_program, source_program}
 -- it has one image, and the program that an image holds which holds its unit
-pub use Rattle.m88_asm.proofs.HeldUnits.{Held, accepted_source, held_by, held_with, holds_by_image, holds_of_same, holds_unit, one_source_image}
+pub use Rattle.m88_asm.proofs.HeldUnits.{Held, accepted_source, held_by, holds_by_image, holds_of_same, holds_unit, one_source_image}
 -- Several sources in one input: it has one verdict, and what stands behind its lines is sources in one way
 pub use Rattle.m88_asm.proofs.SeveralSources.{StandBefore, last_before, one_list, one_more_before, one_verdict as one_several_verdict, too_many}
 -- images that hold them hold their programs, which are theirs alone

@@ -7,8 +7,6 @@ pub use Rattle.m88_board.proofs.AtMoment.{registers_seen}
 pub use Rattle.m88_board.proofs.Shown.{pending_seen, words_seen}
 -- it has something pending where the moment does
 pub use Rattle.m88_board.proofs.Walking.{drained_by}
--- no register waits where nothing is pending
-pub use Rattle.m88_board.proofs.Ending.{none_wait}
 -- Each letter counts an event.
 pub use Rattle.m88_board.proofs.Walking.{along_events}
 -- Walks: a condition that held at none of the first k moments and fails at the next held at none of the first k + 1.

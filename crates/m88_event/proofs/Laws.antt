@@ -12,7 +12,7 @@ pub use Rattle.m88_event.proofs.Over.{answered_issues_none, drained_bus, issued_
 pub use Rattle.m88_event.proofs.Follows.{ended_is, law as moves_as_seen, same_said, same_situation}
 -- no moment of a run is past what was made, each letter's choice fits its moment, and more instructions make no fewer
 -- transactions
-pub use Rattle.m88_event.proofs.Follows.{Fits, fits, more_transactions, reached_within, stays_within}
+pub use Rattle.m88_event.proofs.Follows.{Fits, fits, more_transactions, stays_within}
 -- what lies behind a moment is so at the opening, at the next moment where it is so at this one, and so at each of a run
 pub use Rattle.m88_event.proofs.Past.{keeps_past, opens_with, past_after}
 -- each letter is one event

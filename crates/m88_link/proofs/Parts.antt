@@ -4,12 +4,12 @@ use Rattle.std.proofs.lemmas.List.{append-nil, drop_more, map-append, take-appen
 use Rattle.std.proofs.lemmas.List.Elements.{filter-append}
 use Rattle.std.proofs.lemmas.List.Concat.{flat_map-append}
 use Rattle.std.specs.Prelude.{Option, None, Some, flat_map}
-use Rattle.std.specs.Option.{option_map, option_or}
+use Rattle.std.specs.Option.{option_or}
 use Rattle.m88_base.proofs.Laws.{option_or_assoc}
 use Rattle.m88_link.specs.declared.fault.LinkFault.{LinkFault}
 use Rattle.m88_link.specs.declared.object.Symbol.{Symbol}
 use Rattle.m88_link.specs.Refusal.{first_fault}
-use Rattle.m88_link.specs.Symbols.{Repetition, absolute, exported, repeated_after, repetition}
+use Rattle.m88_link.specs.Symbols.{absolute, exported, repeated_after, repetition}
 
 module _ {X Y : Type 0} (H : List X → List Y) (add : (xs ys : List X) → H (xs ++ ys) ≡ H xs ++ H ys) (xs : List X) (i : ℕ) (x : X)
     (within : i < length xs) (is : x ≡ get_or xs i x) where

@@ -6,15 +6,10 @@ pub use Rattle.m88_parse.proofs.Law.Faults.{one_verdict as one_source_verdict}
 pub use Rattle.m88_parse.proofs.FormedUnits.{unit_formed}
 -- an ended source has the unit of the source, and is parted from what stands behind it and a line that can't be read
 pub use Rattle.m88_parse.proofs.EndedSources.{ended_parted, ended_unit}
--- Lines: what a line says is read of it, as the row that says it.
-pub use Rattle.m88_parse.proofs.Law.Statements.{row_for}
-pub use Rattle.m88_parse.proofs.Law.Units.{row_again}
--- a text has no more lines than bytes, and none is longer than the text
+-- Lines: a text has no more lines than bytes, and none is longer than the text
 pub use Rattle.m88_parse.proofs.FormedUnits.{lines_few}
 pub use Rattle.m88_parse.proofs.TokenBounds.{AreShort, lines_short}
 -- Tokens: each token of a line that isn't too long stands at a column below 2^32 and has bytes for its text.
 pub use Rattle.m88_parse.proofs.TokenBounds.{AreSmall, IsInLine, tokens_in_line}
--- decimal digits, and 0x with hexadecimal digits, are bytes of one token
-pub use Rattle.m88_parse.proofs.Law.FirstToken.{decimal_run, hexadecimal_run}
 -- a number with a sign is below its modulus
 pub use Rattle.m88_parse.proofs.FormedOperands.{signed_small}
