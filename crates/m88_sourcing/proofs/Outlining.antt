@@ -9,7 +9,7 @@ use Rattle.m88_sourcing.specs.Code.{HasInstruction, IsCode, IsReached, seeds_of}
 use Rattle.m88_sourcing.specs.Code.IsCode.{in_slot, reached}
 use Rattle.m88_sourcing.specs.Code.IsReached.{leads}
 use Rattle.m88_sourcing.specs.Inside.Walks.{HasSlot, IsWalkSound, MayLeadTo}
-use Rattle.m88_sourcing.specs.Inside.Words.{has_word}
+use Rattle.std.specs.FinSet.{contains}
 use Rattle.m88_sourcing.specs.declared.reaching.Walk.{Walk}
 use Rattle.m88_sourcing.specs.declared.words.Words.{Words}
 
@@ -39,12 +39,12 @@ slot_more slots index a Old Had Has Stands low before last =
 
 -- what a walk has found, with the slots, is the code
 pub all_code : (image : ProgramImage) (entries seeds : List ℕ) (w : Walk) (new : Words) → seeds ≡ seeds_of image entries
-    → IsWalkSound image seeds w → ((a : ℕ) → IsReached image seeds a → IsTrue (has_word w.outline.code a))
-    → ((a b : ℕ) → IsTrue (has_word w.outline.code a) → HasSlot image a b
+    → IsWalkSound image seeds w → ((a : ℕ) → IsReached image seeds a → IsTrue (contains w.outline.code a))
+    → ((a b : ℕ) → IsTrue (contains w.outline.code a) → HasSlot image a b
     → Contains w.slots.items b ⊎ MayLeadTo image a b)
-    → ((a : ℕ) → IsTrue (has_word new a)
-    ↔ (IsTrue (has_word w.outline.code a) ⊎ (Contains w.slots.items a × HasInstruction image a)))
-    → (a : ℕ) → IsTrue (has_word new a) ↔ IsCode image entries a
+    → ((a : ℕ) → IsTrue (contains new a)
+    ↔ (IsTrue (contains w.outline.code a) ⊎ (Contains w.slots.items a × HasInstruction image a)))
+    → (a : ℕ) → IsTrue (contains new a) ↔ IsCode image entries a
 all_code image entries seeds w new seeds_are sound all slots more a = (
   λ has. elim ((more a).0 has) [
     | inl there ↦ reached (from_seeds a (sound.code a there))
@@ -58,7 +58,7 @@ all_code image entries seeds w new seeds_are sound all slots more a = (
     from_seeds : (b : ℕ) → IsReached image seeds b → IsReached image (seeds_of image entries) b
     from_seeds b r = subst (λ (xs : List ℕ). IsReached image xs b) seeds_are r
 
-    by : IsCode image entries a → IsTrue (has_word w.outline.code a)
+    by : IsCode image entries a → IsTrue (contains w.outline.code a)
         ⊎ (Contains w.slots.items a × HasInstruction image a)
     by (reached r) = inl (all a (subst (λ (xs : List ℕ). IsReached image xs a) (sym seeds_are) r))
     by (in_slot b r is) =

@@ -3,7 +3,7 @@ use Rattle.std.proofs.Common.{◌≡◌, ◌⊎◌, ◌∙◌, ℕ, ◌+◌, ◌
 use Rattle.std.specs.Prelude.{◌↔◌, None, Some}
 use Rattle.std.proofs.lemmas.List.{drop_all}
 use Rattle.std.proofs.lemmas.Option.{get_or_from_slice_get, slice_get_within}
-use Rattle.m88_sourcing.specs.Inside.Words.{has_word}
+use Rattle.std.specs.FinSet.{contains}
 use Rattle.m88_base.specs.Found.{IsPart}
 use Rattle.m88_base.specs.Image.{ProgramImage, byte_at}
 use Rattle.m88_base.specs.Lines.{line_end}
@@ -24,22 +24,22 @@ not_true true none = absurd (none refl)
 not_true false none = refl
 
 as_code : (image : ProgramImage) (entries : List ℕ) (o : Outline) (at a : ℕ) → OutlinesImage image entries o
-    → among_words (has_word o.code) at ≡ true → AsAt (has_word o.code) at a ↔ InCode image entries a
+    → among_words (contains o.code) at ≡ true → AsAt (contains o.code) at a ↔ InCode image entries a
 as_code image entries o at a is first =
     (λ same. (is.code (word_address a)).0 (same ∙ first), λ code. (is.code (word_address a)).1 code ∙ sym first)
 
 as_none : (image : ProgramImage) (entries : List ℕ) (o : Outline) (at a : ℕ) → OutlinesImage image entries o
-    → among_words (has_word o.code) at ≡ false → AsAt (has_word o.code) at a ↔ (¬ InCode image entries a)
+    → among_words (contains o.code) at ≡ false → AsAt (contains o.code) at a ↔ (¬ InCode image entries a)
 as_none image entries o at a is first = (
   λ same code. true≢false (sym ((is.code (word_address a)).1 code) ∙ (same ∙ first)),
   λ none.
-      not_true (among_words (has_word o.code) a) (λ member. none ((is.code (word_address a)).0 member)) ∙ sym first,
+      not_true (among_words (contains o.code) a) (λ member. none ((is.code (word_address a)).0 member)) ∙ sym first,
 )
 
 -- a piece of code is made of whole words, and an instruction stands at each
 pub whole_piece : (image : ProgramImage) (entries : List ℕ) (o : Outline) (at n : ℕ) (bytes : List ℕ)
-    → OutlinesImage image entries o → among_words (has_word o.code) at ≡ true → at % 4 ≡ 0
-    → byte_at image (at + length bytes) ≡ None → IsPiece (AsAt (has_word o.code) at) at bytes n
+    → OutlinesImage image entries o → among_words (contains o.code) at ≡ true → at % 4 ≡ 0
+    → byte_at image (at + length bytes) ≡ None → IsPiece (AsAt (contains o.code) at) at bytes n
     → (n ≡ length bytes) ⊎ ((at + n) % 4 ≡ 0) → n % 4 ≡ 0
 whole_piece image entries o at n bytes is first whole end piece (inl all) =
     piece_whole image at n whole
@@ -48,8 +48,8 @@ whole_piece image entries o at n bytes is first whole end piece (inl all) =
 whole_piece image entries o at n bytes is first whole end piece (inr ends) = omega (arith, ends, whole)
 
 pub words_stand : (image : ProgramImage) (entries : List ℕ) (o : Outline) (at n : ℕ) (bytes : List ℕ)
-    → OutlinesImage image entries o → among_words (has_word o.code) at ≡ true → at % 4 ≡ 0
-    → IsPiece (AsAt (has_word o.code) at) at bytes n
+    → OutlinesImage image entries o → among_words (contains o.code) at ≡ true → at % 4 ≡ 0
+    → IsPiece (AsAt (contains o.code) at) at bytes n
     → (k : ℕ) → k < n / 4 → HasInstruction image (at + 4 * k)
 words_stand image entries o at n bytes is first whole piece k low =
     let here : word_address (at + 4 * k) ≡ at + 4 * k = omega (arith, whole) in
@@ -59,8 +59,8 @@ words_stand image entries o at n bytes is first whole piece k low =
 
 -- its lines, before those of the others
 pub code_piece : (image : ProgramImage) (entries : List ℕ) (o : Outline) (at n : ℕ) (bytes t0 t1 t2 : List ℕ)
-    → OutlinesImage image entries o → among_words (has_word o.code) at ≡ true → n % 4 ≡ 0
-    → IsPiece (AsAt (has_word o.code) at) at bytes n → t1 ≡ t0 ++ (place_line at ++ line_end)
+    → OutlinesImage image entries o → among_words (contains o.code) at ≡ true → n % 4 ≡ 0
+    → IsPiece (AsAt (contains o.code) at) at bytes n → t1 ≡ t0 ++ (place_line at ++ line_end)
     → AreAppended (AreCodeLines (λ _. []) image entries at (n / 4)) t1 t2
     → FrontAppended (ArePieceLines (λ _. []) image entries at bytes)
     (ArePieceLines (λ _. []) image entries (at + n) (drop n bytes)) t0 t2
@@ -76,8 +76,8 @@ code_piece image entries o at n bytes t0 t1 t2 is first whole piece place own =
     place own)
 
 pub loose_piece : (image : ProgramImage) (entries : List ℕ) (o : Outline) (at n : ℕ) (bytes t0 t1 t2 : List ℕ)
-    → OutlinesImage image entries o → among_words (has_word o.code) at ≡ false
-    → IsPiece (AsAt (has_word o.code) at) at bytes n → t1 ≡ t0 ++ (place_line at ++ line_end)
+    → OutlinesImage image entries o → among_words (contains o.code) at ≡ false
+    → IsPiece (AsAt (contains o.code) at) at bytes n → t1 ≡ t0 ++ (place_line at ++ line_end)
     → AreAppended (AreLooseLines image entries at (take n bytes)) t1 t2
     → FrontAppended (ArePieceLines (λ _. []) image entries at bytes)
     (ArePieceLines (λ _. []) image entries (at + n) (drop n bytes)) t0 t2
@@ -89,7 +89,7 @@ loose_piece image entries o at n bytes t0 t1 t2 is first piece place own =
 pub next_whole : (image : ProgramImage) (entries : List ℕ) (o : Outline) (at done : ℕ) (bytes : List ℕ)
     → OutlinesImage image entries o → IsPart (byte_at image) at bytes → done < length bytes
     → (done ≡ 0) ⊎ ((done ≡ length bytes) ⊎ ((at + done) % 4 ≡ 0))
-    → among_words (has_word o.code) (at + done) ≡ true → (at + done) % 4 ≡ 0
+    → among_words (contains o.code) (at + done) ≡ true → (at + done) % 4 ≡ 0
 next_whole image entries o at done bytes is is_part low (inl none) code =
     let here : at + done ≡ at = omega (arith, none) in
     let first : at % 4 ≡ 0 =

@@ -10,7 +10,7 @@ use Rattle.m88_sourcing.specs.Code.IsReached.{leads}
 use Rattle.m88_sourcing.specs.Flow.{branch_target, slot}
 use Rattle.m88_sourcing.specs.Inside.Members.{Notes}
 use Rattle.m88_sourcing.specs.Inside.Walks.{HasSlot, IsClosed, IsNamedBy, IsReachedIfCode, IsWalkSound, Keeps, MayLeadTo, NamesTargets}
-use Rattle.m88_sourcing.specs.Inside.Words.{has_word}
+use Rattle.std.specs.FinSet.{contains}
 use Rattle.m88_sourcing.specs.Labels.{BranchesTo}
 use Rattle.m88_sourcing.specs.declared.outline.Outline.{Outline}
 use Rattle.m88_sourcing.specs.declared.reaching.Walk.{Walk}
@@ -44,7 +44,7 @@ with_one xs ys o b e = (
 -- one word of code more, and its target
 named_more : (image : ProgramImage) (old new : Outline) (at t : ℕ) (i : Instr) (Had Has Other : Type 0)
     → HoldsInstruction image at i
-    → ((a : ℕ) → IsTrue (has_word new.code a) ↔ (IsTrue (has_word old.code a) ⊎ (a ≡ at)))
+    → ((a : ℕ) → IsTrue (contains new.code a) ↔ (IsTrue (contains old.code a) ⊎ (a ≡ at)))
     → Had ↔ (IsNamedBy image old t × Other) → Has ↔ (Had ⊎ ((branch_target at i ≡ Some t) × Other))
     → Has ↔ (IsNamedBy image new t × Other)
 named_more image old new at t i Had Has Other holds code before last = (
@@ -65,12 +65,12 @@ named_more image old new at t i Had Has Other holds code before last = (
 
 pub names_more : (image : ProgramImage) (old : Outline) (code : Words) (new : Outline) (at : ℕ) (i : Instr)
     → HoldsInstruction image at i → NamesTargets image old
-    → ((a : ℕ) → IsTrue (has_word code a) ↔ (IsTrue (has_word old.code a) ⊎ (a ≡ at)))
+    → ((a : ℕ) → IsTrue (contains code a) ↔ (IsTrue (contains old.code a) ⊎ (a ≡ at)))
     → Notes image (λ a. branch_target at i ≡ Some a) (record { code = code; labels = old.labels; far = old.far }) new
     → NamesTargets image new
 names_more image old code new at i holds names more notes =
-    let now : (a : ℕ) → IsTrue (has_word new.code a) ↔ (IsTrue (has_word old.code a) ⊎ (a ≡ at)) =
-    λ a. subst (λ (w : Words). IsTrue (has_word w a) ↔ (IsTrue (has_word old.code a) ⊎ (a ≡ at))) (sym notes.code)
+    let now : (a : ℕ) → IsTrue (contains new.code a) ↔ (IsTrue (contains old.code a) ⊎ (a ≡ at)) =
+    λ a. subst (λ (w : Words). IsTrue (contains w a) ↔ (IsTrue (contains old.code a) ⊎ (a ≡ at))) (sym notes.code)
     (more a) in
     record {
       labels = λ a. named_more image old new at a i _ _ _ holds now (names.labels a) (notes.labels a);
@@ -79,7 +79,7 @@ names_more image old code new at i holds names more notes =
 
 -- the targets of the same words
 pub names_same : (image : ProgramImage) (old : Outline) (code : Words)
-    → ((a : ℕ) → IsTrue (has_word code a) ↔ IsTrue (has_word old.code a)) → NamesTargets image old
+    → ((a : ℕ) → IsTrue (contains code a) ↔ IsTrue (contains old.code a)) → NamesTargets image old
     → NamesTargets image (record { code = code; labels = old.labels; far = old.far })
 names_same image old code same names =
     let named : (t : ℕ) → IsNamedBy image old t ↔ IsNamedBy image
@@ -97,20 +97,20 @@ names_same image old code same names =
     }
 
 -- a set with a member once more
-pub once_more : (old new : Words) (at : ℕ) → IsTrue (has_word old at)
-    → ((a : ℕ) → IsTrue (has_word new a) ↔ (IsTrue (has_word old a) ⊎ (a ≡ at)))
-    → (a : ℕ) → IsTrue (has_word new a) ↔ IsTrue (has_word old a)
+pub once_more : (old new : Words) (at : ℕ) → IsTrue (contains old at)
+    → ((a : ℕ) → IsTrue (contains new a) ↔ (IsTrue (contains old a) ⊎ (a ≡ at)))
+    → (a : ℕ) → IsTrue (contains new a) ↔ IsTrue (contains old a)
 once_more old new at there more a = (
   λ h. elim ((more a).0 h) [
     | inl was ↦ was
-    | inr same ↦ subst (λ (n : ℕ). IsTrue (has_word old n)) (sym same) there
+    | inr same ↦ subst (λ (n : ℕ). IsTrue (contains old n)) (sym same) there
   ],
   λ h. (more a).1 (inl h),
 )
 
 -- nothing is left at a word that was found before
 pub again_closed : (image : ProgramImage) (w : Walk) (o : Outline) (at : ℕ) (Left : ℕ → Type 0)
-    → IsTrue (has_word w.outline.code at) → ((a : ℕ) → IsTrue (has_word o.code a) ↔ IsTrue (has_word w.outline.code a))
+    → IsTrue (contains w.outline.code at) → ((a : ℕ) → IsTrue (contains o.code a) ↔ IsTrue (contains w.outline.code a))
     → NamesTargets image o → IsClosed image w (λ b. b ≡ at)
     → IsClosed image (record { outline = o; heads = w.heads; slots = w.slots }) Left
 again_closed image w o at Left here same names closed = record {
@@ -119,7 +119,7 @@ again_closed image w o at Left here same names closed = record {
         | inl found ↦ inl ((same b).1 found)
         | inr further ↦ elim further [
           | inl head ↦ inr (inl head)
-          | inr is ↦ inl ((same b).1 (subst (λ (n : ℕ). IsTrue (has_word w.outline.code n)) (sym is) here))
+          | inr is ↦ inl ((same b).1 (subst (λ (n : ℕ). IsTrue (contains w.outline.code n)) (sym is) here))
         ]
       ];
   slots = λ a b there. closed.slots a b ((same a).0 there);
@@ -127,7 +127,7 @@ again_closed image w o at Left here same names closed = record {
 }
 
 pub again_sound : (image : ProgramImage) (seeds : List ℕ) (w : Walk) (o : Outline)
-    → ((a : ℕ) → IsTrue (has_word o.code a) ↔ IsTrue (has_word w.outline.code a)) → IsWalkSound image seeds w
+    → ((a : ℕ) → IsTrue (contains o.code a) ↔ IsTrue (contains w.outline.code a)) → IsWalkSound image seeds w
     → IsWalkSound image seeds (record { outline = o; heads = w.heads; slots = w.slots })
 again_sound image seeds w o same sound = record {
   code = λ a there. sound.code a ((same a).0 there);
@@ -154,7 +154,7 @@ left_as image w Left Other other closed = record {
 
 -- where nothing is left but what was found
 pub none_left : (image : ProgramImage) (w : Walk) (at : ℕ) (Left : ℕ → Type 0)
-    → (HasInstruction image at → IsTrue (has_word w.outline.code at)) → IsClosed image w (λ b. b ≡ at)
+    → (HasInstruction image at → IsTrue (contains w.outline.code at)) → IsClosed image w (λ b. b ≡ at)
     → IsClosed image w Left
 none_left image w at Left found closed = record {
   leads = λ a b there led.
@@ -163,7 +163,7 @@ none_left image w at Left found closed = record {
         | inr further ↦ elim further [
           | inl head ↦ inr (inl head)
           | inr same ↦
-              inl (subst (λ (n : ℕ). IsTrue (has_word w.outline.code n)) (sym same)
+              inl (subst (λ (n : ℕ). IsTrue (contains w.outline.code n)) (sym same)
               (found (subst (λ (n : ℕ). HasInstruction image n) same led.4)))
         ]
       ];
@@ -174,7 +174,7 @@ none_left image w at Left found closed = record {
 -- one word more, whose slot and whose target were noted or are left
 pub more_closed : (image : ProgramImage) (old new : Walk) (at : ℕ) (next slot_there : Option ℕ) (i : Instr)
     → HoldsInstruction image at i → IsClosed image old (λ b. b ≡ at)
-    → ((a : ℕ) → IsTrue (has_word new.outline.code a) ↔ (IsTrue (has_word old.outline.code a) ⊎ (a ≡ at)))
+    → ((a : ℕ) → IsTrue (contains new.outline.code a) ↔ (IsTrue (contains old.outline.code a) ⊎ (a ≡ at)))
     → NamesTargets image new.outline → slot_there ≡ slot at i
     → ((b : ℕ) → Contains old.slots.items b → Contains new.slots.items b)
     → ((b : ℕ) → slot_there ≡ Some b → Contains new.slots.items b ⊎ (next ≡ Some b))
@@ -227,7 +227,7 @@ led_to image seeds a b from led stands = leads from (led.0, led.1, led.2, led.3,
 pub more_sound : (image : ProgramImage) (seeds : List ℕ) (old new : Walk) (at : ℕ) (next slot_there : Option ℕ)
     (i : Instr)
     → HoldsInstruction image at i → IsWalkSound image seeds old → IsReachedIfCode image seeds at
-    → ((a : ℕ) → IsTrue (has_word new.outline.code a) ↔ (IsTrue (has_word old.outline.code a) ⊎ (a ≡ at)))
+    → ((a : ℕ) → IsTrue (contains new.outline.code a) ↔ (IsTrue (contains old.outline.code a) ⊎ (a ≡ at)))
     → slot_there ≡ slot at i
     → ((b : ℕ) → Contains new.slots.items b → Contains old.slots.items b ⊎ (slot_there ≡ Some b))
     → ((b : ℕ) → Contains new.heads.items b → Contains old.heads.items b ⊎ MayLeadTo image at b)
@@ -274,13 +274,13 @@ pub ended_closed : (image : ProgramImage) (w : Walk) (new : Walk) (next : Option
     → IsClosed image new (λ _. ⊥)
 ended_closed image w new next outline slots heads closed = record {
   leads = λ a b there led.
-      elim (closed.leads a b (subst (λ (o : Outline). IsTrue (has_word o.code a)) outline there) led) [
-        | inl found ↦ inl (subst (λ (o : Outline). IsTrue (has_word o.code b)) (sym outline) found)
+      elim (closed.leads a b (subst (λ (o : Outline). IsTrue (contains o.code a)) outline there) led) [
+        | inl found ↦ inl (subst (λ (o : Outline). IsTrue (contains o.code b)) (sym outline) found)
         | inr further ↦ inr (inl ((with_one w.heads.items new.heads.items next b heads).1 further))
       ];
   slots = λ a b there is_slot.
       subst (λ s. Contains s.items b ⊎ MayLeadTo image a b) (sym slots)
-      (closed.slots a b (subst (λ (o : Outline). IsTrue (has_word o.code a)) outline there) is_slot);
+      (closed.slots a b (subst (λ (o : Outline). IsTrue (contains o.code a)) outline there) is_slot);
   names = subst (λ (o : Outline). NamesTargets image o) (sym outline) closed.names;
 }
 
@@ -289,7 +289,7 @@ pub ended_sound : (image : ProgramImage) (seeds : List ℕ) (w : Walk) (new : Wa
     → new.slots ≡ w.slots → new.heads.items ≡ w.heads.items ++ option_to_list next
     → IsWalkSound image seeds w × IfSome next (IsReachedIfCode image seeds) → IsWalkSound image seeds new
 ended_sound image seeds w new next outline slots heads (sound, on) = record {
-  code = λ a there. sound.code a (subst (λ (o : Outline). IsTrue (has_word o.code a)) outline there);
+  code = λ a there. sound.code a (subst (λ (o : Outline). IsTrue (contains o.code a)) outline there);
   heads = λ a head.
       elim ((with_one w.heads.items new.heads.items next a heads).0 head) [
         | inl old ↦ sound.heads a old

@@ -7,7 +7,7 @@ use Rattle.std.proofs.lemmas.Map.Views.{btree_set_contains_iff}
 use Rattle.std.proofs.lemmas.Cmp.{nat_cmp_total}
 use Rattle.std.proofs.lemmas.Map.Lookups.{exact_unsigned}
 use Rattle.std.proofs.lemmas.List.Concat.{flat_map-append}
-use Rattle.m88_sourcing.specs.Inside.Words.{has_word}
+use Rattle.std.specs.FinSet.{contains}
 use Rattle.m88_base.specs.Image.{ProgramImage, parts}
 use Rattle.m88_base.specs.Lines.{line_end, text_of_lines}
 use Rattle.m88_disasm.specs.Listing.{start_line}
@@ -25,7 +25,7 @@ through P Q R first second = (λ q. second.0 (first.1 q), λ r. first.0 (second.
 
 pub source_of : (image : ProgramImage) (entries : List ℕ) (o : Outline) (t1 t2 t3 : List ℕ) → OutlinesImage image entries o
     → IsOrdered nat_cmp o.far
-    → AreAppended (LineWhere (¬ IsTrue (has_word o.code image.start)) (start_line image.start)) [] t1
+    → AreAppended (LineWhere (¬ IsTrue (contains o.code image.start)) (start_line image.start)) [] t1
     → t2 ≡ t1 ++ text_of_lines (map far_line o.far.keys)
     → AreAppended (AreSourceLines (λ _. []) image entries (parts image)) t2 t3 → IsSource image entries t3
 source_of image entries o t1 t2 t3 is ordered s far l = record {
@@ -50,13 +50,13 @@ source_of image entries o t1 t2 t3 is ordered s far l = record {
 -- from an empty text on
 pub whole_source : (image : ProgramImage) (entries : List ℕ) (o : Outline) (start : ℕ) (t0 t1 t2 t3 : List ℕ)
     → start ≡ image.start → t0 ≡ [] → OutlinesImage image entries o → IsOrdered nat_cmp o.far
-    → AreAppended (LineWhere (¬ IsTrue (has_word o.code start)) (start_line start)) t0 t1
+    → AreAppended (LineWhere (¬ IsTrue (contains o.code start)) (start_line start)) t0 t1
     → t2 ≡ t1 ++ text_of_lines (map far_line o.far.keys)
     → AreAppended (AreSourceLines (λ _. []) image entries (parts image)) t2 t3 → IsSource image entries t3
 whole_source image entries o start t0 t1 t2 t3 start_is none is ordered s far l =
     source_of image entries o t1 t2 t3 is ordered
     (subst
-    (λ (t : List ℕ). AreAppended (LineWhere (¬ IsTrue (has_word o.code image.start)) (start_line image.start)) t t1)
+    (λ (t : List ℕ). AreAppended (LineWhere (¬ IsTrue (contains o.code image.start)) (start_line image.start)) t t1)
     none
-    (subst (λ (a : ℕ). AreAppended (LineWhere (¬ IsTrue (has_word o.code a)) (start_line a)) t0 t1) start_is s))
+    (subst (λ (a : ℕ). AreAppended (LineWhere (¬ IsTrue (contains o.code a)) (start_line a)) t0 t1) start_is s))
     far l

@@ -6,7 +6,7 @@ ghost use Rattle.m88_disasm.specs.Text.{hexadecimal};
 ghost use Rattle.m88_sourcing.specs.Data.{in_text, text_line, words_line, zeros_line};
 ghost use Rattle.m88_disasm.specs.Listing.{start_line};
 ghost use Rattle.m88_sourcing.specs.Inside.Appended.{AreAppended};
-ghost use Rattle.m88_sourcing.specs.Inside.Words.{has_word};
+ghost use Rattle.std.specs.FinSet.{contains};
 ghost use Rattle.m88_sourcing.specs.Labels.{label_line, label_of};
 ghost use Rattle.m88_sourcing.specs.Source.{LineWhere, far_line};
 
@@ -71,7 +71,7 @@ pub(crate) fn push_start_number(
     start: u32,
 ) -> Result<(), AllocError>
     ensures { OnOk result (AreAppended
-        (LineWhere (¬ IsTrue (has_word code.now start)) (start_line start))
+        (LineWhere (¬ IsTrue (contains code.now start)) (start_line start))
         text.old.items text.new.items) }
 {
     if !code.contains(start) {

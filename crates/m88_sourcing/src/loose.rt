@@ -5,7 +5,7 @@ ghost use Rattle.m88_base.specs.Lines.{line_end};
 ghost use Rattle.m88_sourcing.specs.Data.{AreDataLines, item_length, item_line};
 ghost use Rattle.m88_sourcing.specs.Inside.Appended.{FrontAppended, AreAppended};
 ghost use Rattle.m88_sourcing.specs.Inside.Members.{OutlinesImage, IsOutlined};
-ghost use Rattle.m88_sourcing.specs.Inside.Words.{has_word};
+ghost use Rattle.std.specs.FinSet.{contains};
 ghost use Rattle.m88_sourcing.specs.Source.{AreLooseLines, IsStretch};
 
 use crate::item::{Finding, Item};
@@ -50,8 +50,8 @@ fn push_data(text: &mut Vec<u8>, at: u32, bytes: &[u8]) -> Result<(), AllocError
 fn stretch_len(labels: &Words, at: u32, bytes: &[u8]) -> usize
     requires some { 0 < length bytes.now }
     requires fits { at + length bytes.now ≤ 2 ^ 32 }
-    requires whole { (a : ℕ) → IsTrue (has_word labels.now a) → a % 4 ≡ 0 }
-    ensures { IsStretch (λ a. IsTrue (has_word labels.now a)) at bytes.now result }
+    requires whole { (a : ℕ) → IsTrue (contains labels.now a) → a % 4 ≡ 0 }
+    ensures { IsStretch (λ a. IsTrue (contains labels.now a)) at bytes.now result }
 {
     let mut len = 4 - at as usize % 4;
     while len < bytes.len() && !labels.contains(at + len as u32) {

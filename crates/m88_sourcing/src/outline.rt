@@ -6,7 +6,7 @@ ghost use Rattle.m88_sourcing.specs.Code.{HoldsInstruction};
 ghost use Rattle.m88_sourcing.specs.Flow.{branch_target};
 ghost use Rattle.m88_sourcing.specs.Inside.Members.{Notes};
 ghost use Rattle.m88_sourcing.specs.Inside.Walks.{NamesTargets};
-ghost use Rattle.m88_sourcing.specs.Inside.Words.{has_word};
+ghost use Rattle.std.specs.FinSet.{contains};
 
 use crate::flow::branch_target;
 use crate::words::Words;
@@ -24,16 +24,16 @@ pub(crate) struct Outline {
 }
 
 impl Outline {
-    /// Where nothing is known.
-    pub fn new(alloc: Global) -> Outline
-        ensures code { (a : ℕ) → has_word result.code a ≡ false }
-        ensures named { (image : ProgramImage) → NamesTargets image result }
+    /// Where nothing is known of an image.
+    pub fn new(alloc: Global, image: &Image) -> Result<Outline, AllocError>
+        ensures code { IfOk result (λ o. (a : ℕ) → contains o.code a ≡ false) }
+        ensures named { IfOk result (NamesTargets image.now) }
     {
-        Outline {
-            code: Words::new(alloc),
-            labels: Words::new(alloc),
+        Ok(Outline {
+            code: Words::new(alloc, image)?,
+            labels: Words::new(alloc, image)?,
             far: BTreeSet::new(alloc),
-        }
+        })
     }
 }
 
@@ -74,12 +74,12 @@ pub(crate) fn note_word(
 ) -> Result<bool, AllocError>
     requires holds { HoldsInstruction image.now at instr.now }
     requires named { NamesTargets image.now outline.old }
-    ensures code { OnOk result ((a : ℕ) → IsTrue (has_word outline.new.code a)
-        ↔ (IsTrue (has_word outline.old.code a) ⊎ (a ≡ at))) }
+    ensures code { OnOk result ((a : ℕ) → IsTrue (contains outline.new.code a)
+        ↔ (IsTrue (contains outline.old.code a) ⊎ (a ≡ at))) }
     ensures named { OnOk result (NamesTargets image.now outline.new) }
-    ensures again { IfOk result (λ is_new. is_new ≡ false → IsTrue (has_word outline.old.code at)) }
+    ensures again { IfOk result (λ is_new. is_new ≡ false → IsTrue (contains outline.old.code at)) }
 {
-    if !outline.code.insert_next(at)? {
+    if !outline.code.insert(at)? {
         return Ok(false);
     }
     note_branch(outline, image, at, instr)?;
@@ -88,8 +88,8 @@ pub(crate) fn note_word(
 
 /// Notes the word of an address at which code was said to begin.
 pub(crate) fn note_entry(labels: &mut Words, image: &Image, entry: u32) -> Result<(), AllocError>
-    ensures { OnOk result ((a : ℕ) → IsTrue (has_word labels.new a)
-        ↔ (IsTrue (has_word labels.old a)
+    ensures { OnOk result ((a : ℕ) → IsTrue (contains labels.new a)
+        ↔ (IsTrue (contains labels.old a)
         ⊎ ((a ≡ word_address entry) × IsSome (byte_at image.now a)))) }
 {
     let at = entry / 4 * 4;

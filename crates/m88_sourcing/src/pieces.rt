@@ -5,7 +5,7 @@ ghost use Rattle.m88_base.specs.Image.{IsImage, byte_at, parts};
 ghost use Rattle.m88_sourcing.specs.Code.{HasInstruction};
 ghost use Rattle.m88_sourcing.specs.Inside.Appended.{FrontAppended, AreAppended};
 ghost use Rattle.m88_sourcing.specs.Inside.Members.{AsAt, OutlinesImage, IsOutlined, among_words};
-ghost use Rattle.m88_sourcing.specs.Inside.Words.{IsLooking, has_word};
+ghost use Rattle.std.specs.FinSet.{contains};
 ghost use Rattle.m88_sourcing.specs.Labels.{HasLabel};
 ghost use Rattle.m88_sourcing.specs.Source.{AreCodeLines, AreSourceLines, ArePieceLines, IsPiece};
 
@@ -14,24 +14,14 @@ use crate::loose::push_loose;
 use crate::naming::push_instruction;
 use crate::outline::Outline;
 use crate::standing::instruction_in;
-use crate::words::{Looking, Words};
+use crate::words::Words;
 use m88_base::Image;
 use m88_disasm::push_place;
 use std::alloc::AllocError;
 
 /// Whether the byte at an address belongs to a word that is code.
 fn is_in_code(code: &Words, at: u32) -> bool
-    ensures { result ≡ among_words (has_word code.now) at }
-{
-    code.contains(at / 4 * 4)
-}
-
-/// The same, of addresses in turn.
-fn is_next_in_code(code: &mut Looking, at: u32) -> bool
-    requires { IsLooking code.old }
-    ensures value { result ≡ among_words (has_word code.old.words.now) at }
-    ensures looking { IsLooking code.new }
-    ensures same { code.new.words ≡ code.old.words }
+    ensures { result ≡ among_words (contains code.now) at }
 {
     code.contains(at / 4 * 4)
 }
@@ -40,13 +30,12 @@ fn is_next_in_code(code: &mut Looking, at: u32) -> bool
 fn piece_len(code: &Words, at: u32, bytes: &[u8]) -> usize
     requires some { 0 < length bytes.now }
     requires fits { at + length bytes.now ≤ 2 ^ 32 }
-    ensures piece { IsPiece (AsAt (has_word code.now) at) at bytes.now result }
+    ensures piece { IsPiece (AsAt (contains code.now) at) at bytes.now result }
     ensures whole { (result ≡ length bytes.now) ⊎ ((at + result) % 4 ≡ 0) }
 {
-    let mut looking = Looking::new(code);
-    let is_code = is_next_in_code(&mut looking, at);
+    let is_code = is_in_code(code, at);
     let mut len = 4 - at as usize % 4;
-    while len < bytes.len() && is_next_in_code(&mut looking, at + len as u32) == is_code {
+    while len < bytes.len() && is_in_code(code, at + len as u32) == is_code {
         len += 4;
     }
     len.min(bytes.len())
@@ -56,20 +45,17 @@ fn piece_len(code: &Words, at: u32, bytes: &[u8]) -> usize
 fn push_code_word(
     text: &mut Vec<u8>,
     image: &Image,
-    labels: &mut Looking,
+    labels: &Words,
     at: u32,
     bytes: &[u8],
 ) -> Result<(), AllocError>
     requires stands { HasInstruction image.now at }
     requires long { 4 ≤ length bytes.now }
     requires there { (k : ℕ) → k < 4 → byte_at image.now (at + k) ≡ slice_get bytes.now k }
-    requires looking { IsLooking labels.old }
-    ensures lines { OnOk result ((entries : List ℕ) (n : ℕ)
-        → ((a : ℕ) → IsTrue (has_word labels.old.words.now a) ↔ HasLabel image.now entries a)
+    ensures { OnOk result ((entries : List ℕ) (n : ℕ)
+        → ((a : ℕ) → IsTrue (contains labels.now a) ↔ HasLabel image.now entries a)
         → FrontAppended (AreCodeLines (λ _. []) image.now entries at (suc n))
         (AreCodeLines (λ _. []) image.now entries (at + 4) n) text.old.items text.new.items) }
-    ensures looking { IsLooking labels.new }
-    ensures same { labels.new.words ≡ labels.old.words }
 {
     push_label_at(text, labels.contains(at), at)?;
     push_start_at(text, image.start(), at)?;
@@ -93,11 +79,10 @@ fn push_code(
         → AreAppended (AreCodeLines (λ _. []) image.now entries at words)
         text.old.items text.new.items) }
 {
-    let mut labels = Looking::new(&outline.labels);
     let bytes = image.rest(at);
     for index in 0..words {
         let (_, rest) = bytes.split_at(4 * index);
-        push_code_word(text, image, &mut labels, at + (4 * index) as u32, rest)?;
+        push_code_word(text, image, &outline.labels, at + (4 * index) as u32, rest)?;
     }
     Ok(())
 }
@@ -115,7 +100,7 @@ fn push_piece(
     requires some { 0 < length bytes.now }
     requires fits { at + length bytes.now ≤ 2 ^ 32 }
     requires end { byte_at image.now (at + length bytes.now) ≡ None }
-    requires whole { IsTrue (among_words (has_word outline.now.code) at) → at % 4 ≡ 0 }
+    requires whole { IsTrue (among_words (contains outline.now.code) at) → at % 4 ≡ 0 }
     ensures lines { IfOk result (λ n. (entries : List ℕ)
         → OutlinesImage image.now entries outline.now
         → FrontAppended (ArePieceLines (λ _. []) image.now entries at bytes.now)

@@ -4,7 +4,7 @@ ghost use Rattle.std.specs.Option.{option_to_list};
 ghost use Rattle.m88_sourcing.specs.Code.{HasInstruction, HoldsInstruction, IsCode, IsReached, seeds_of};
 ghost use Rattle.m88_sourcing.specs.Inside.Members.{OutlinesImage};
 ghost use Rattle.m88_sourcing.specs.Inside.Walks.{HasSlot, IsClosed, IsReachedIfCode, IsWalkSound, Keeps, MayLeadTo, NamesTargets};
-ghost use Rattle.m88_sourcing.specs.Inside.Words.{has_word};
+ghost use Rattle.std.specs.FinSet.{contains};
 
 use crate::flow::{branch_target, goes_on_to, slot};
 use crate::outline::{Outline, note_entry, note_word};
@@ -87,7 +87,7 @@ fn step(walk: &mut Walk, image: &Image, at: u32) -> Result<Option<u32>, AllocErr
         → IsWalkSound image.now seeds walk.new × IfSome next (IsReachedIfCode image.now seeds)) }
     ensures keeps { OnOk result (Keeps walk.old walk.new) }
     ensures found { OnOk result (HasInstruction image.now at
-        → IsTrue (has_word walk.new.outline.code at)) }
+        → IsTrue (contains walk.new.outline.code at)) }
 {
     let Some(instr) = standing(image, at) else {
         return Ok(None);
@@ -108,7 +108,7 @@ fn follow_way(walk: &mut Walk, image: &Image, head: u32) -> Result<(), AllocErro
         → IsReachedIfCode image.now seeds head → IsWalkSound image.now seeds walk.new) }
     ensures keeps { OnOk result (Keeps walk.old walk.new) }
     ensures found { OnOk result (HasInstruction image.now head
-        → IsTrue (has_word walk.new.outline.code head)) }
+        → IsTrue (contains walk.new.outline.code head)) }
 {
     if walk.outline.code.contains(head) {
         return Ok(());
@@ -127,13 +127,13 @@ fn follow_way(walk: &mut Walk, image: &Image, head: u32) -> Result<(), AllocErro
 fn follow(alloc: Global, image: &Image, seeds: Vec<u32>) -> Result<Walk, AllocError>
     ensures sound { IfOk result (λ w. IsWalkSound image.now seeds.items w) }
     ensures all { IfOk result (λ w. (a : ℕ) → IsReached image.now seeds.items a
-        → IsTrue (has_word w.outline.code a)) }
-    ensures slots { IfOk result (λ w. (a b : ℕ) → IsTrue (has_word w.outline.code a)
+        → IsTrue (contains w.outline.code a)) }
+    ensures slots { IfOk result (λ w. (a b : ℕ) → IsTrue (contains w.outline.code a)
         → HasSlot image.now a b → Contains w.slots.items b ⊎ MayLeadTo image.now a b) }
     ensures names { IfOk result (λ w. NamesTargets image.now w.outline) }
 {
     let mut walk = Walk {
-        outline: Outline::new(alloc),
+        outline: Outline::new(alloc, image)?,
         heads: seeds,
         slots: Vec::new(alloc),
     };
@@ -149,8 +149,8 @@ fn follow(alloc: Global, image: &Image, seeds: Vec<u32>) -> Result<Walk, AllocEr
 /// Notes the word of a delay slot, where an instruction stands there.
 fn note_slot(outline: &mut Outline, image: &Image, at: u32) -> Result<(), AllocError>
     requires { NamesTargets image.now outline.old }
-    ensures code { OnOk result ((a : ℕ) → IsTrue (has_word outline.new.code a)
-        ↔ (IsTrue (has_word outline.old.code a) ⊎ ((a ≡ at) × HasInstruction image.now a))) }
+    ensures code { OnOk result ((a : ℕ) → IsTrue (contains outline.new.code a)
+        ↔ (IsTrue (contains outline.old.code a) ⊎ ((a ≡ at) × HasInstruction image.now a))) }
     ensures named { OnOk result (NamesTargets image.now outline.new) }
 {
     if let Some(instr) = standing(image, at) {
@@ -162,8 +162,8 @@ fn note_slot(outline: &mut Outline, image: &Image, at: u32) -> Result<(), AllocE
 /// Notes the words of delay slots, where instructions stand there.
 fn note_slots(outline: &mut Outline, image: &Image, slots: &[u32]) -> Result<(), AllocError>
     requires { NamesTargets image.now outline.old }
-    ensures code { OnOk result ((a : ℕ) → IsTrue (has_word outline.new.code a)
-        ↔ (IsTrue (has_word outline.old.code a) ⊎ (Contains slots.now a × HasInstruction image.now a))) }
+    ensures code { OnOk result ((a : ℕ) → IsTrue (contains outline.new.code a)
+        ↔ (IsTrue (contains outline.old.code a) ⊎ (Contains slots.now a × HasInstruction image.now a))) }
     ensures named { OnOk result (NamesTargets image.now outline.new) }
 {
     for slot in slots {
@@ -187,7 +187,7 @@ fn seeds(alloc: Global, image: &Image, entries: &[u32]) -> Result<Vec<u32>, Allo
 /// The words of an image that are code, where code begins at these addresses besides the start, with their targets.
 fn code_words(alloc: Global, image: &Image, entries: &[u32]) -> Result<Outline, AllocError>
     ensures code { IfOk result (λ o. (a : ℕ)
-        → IsTrue (has_word o.code a) ↔ IsCode image.now entries.now a) }
+        → IsTrue (contains o.code a) ↔ IsCode image.now entries.now a) }
     ensures names { IfOk result (λ o. NamesTargets image.now o) }
 {
     let seeds = seeds(alloc, image, entries)?;

@@ -5,14 +5,14 @@ use Rattle.std.specs.Ordering.{nat_cmp}
 use Rattle.m88_base.specs.Image.{ProgramImage, byte_at}
 use Rattle.m88_isa.specs.Address.{word_address}
 use Rattle.m88_sourcing.specs.Code.{IsCode}
-use Rattle.m88_sourcing.specs.Inside.Words.{has_word}
+use Rattle.std.specs.FinSet.{contains}
 use Rattle.m88_sourcing.specs.Labels.{HasLabel, IsTarget}
 use Rattle.m88_sourcing.specs.declared.outline.Outline.{Outline}
 
 -- the words that are code, the addresses with a label, and the targets without a byte
 pub record OutlinesImage (image : ProgramImage) (entries : List ℕ) (o : Outline) : Type 0 where
-  pub code : (a : ℕ) → IsTrue (has_word o.code a) ↔ IsCode image entries a
-  pub labels : (a : ℕ) → IsTrue (has_word o.labels a) ↔ HasLabel image entries a
+  pub code : (a : ℕ) → IsTrue (contains o.code a) ↔ IsCode image entries a
+  pub labels : (a : ℕ) → IsTrue (contains o.labels a) ↔ HasLabel image entries a
   pub far : (t : ℕ) → IsTrue (has nat_cmp o.far t) ↔ (IsTarget image entries t × (byte_at image t ≡ None))
 
 -- it is the outline of the image, with code that begins at some addresses besides the start
@@ -30,7 +30,7 @@ AsAt words at a = among_words words a ≡ among_words words at
 -- of the addresses of a kind those with a byte were noted as labels, and those without one as far targets
 pub record Notes (image : ProgramImage) (Named : ℕ → Type 0) (old new : Outline) : Type 0 where
   pub code : new.code ≡ old.code
-  pub labels : (a : ℕ) → IsTrue (has_word new.labels a)
-      ↔ (IsTrue (has_word old.labels a) ⊎ (Named a × IsSome (byte_at image a)))
+  pub labels : (a : ℕ) → IsTrue (contains new.labels a)
+      ↔ (IsTrue (contains old.labels a) ⊎ (Named a × IsSome (byte_at image a)))
   pub far : (a : ℕ) → IsTrue (has nat_cmp new.far a)
       ↔ (IsTrue (has nat_cmp old.far a) ⊎ (Named a × (byte_at image a ≡ None)))

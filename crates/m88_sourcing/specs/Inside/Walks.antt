@@ -6,18 +6,18 @@ use Rattle.m88_base.specs.Image.{ProgramImage, byte_at}
 use Rattle.m88_isa.specs.declared.instr.Instr.{Instr}
 use Rattle.m88_sourcing.specs.Code.{GoesTo, HasInstruction, HoldsInstruction, IsExit, IsReached, IsReachedFrom}
 use Rattle.m88_sourcing.specs.Flow.{slot}
-use Rattle.m88_sourcing.specs.Inside.Words.{has_word}
+use Rattle.std.specs.FinSet.{contains}
 use Rattle.m88_sourcing.specs.Labels.{BranchesTo}
 use Rattle.m88_sourcing.specs.declared.outline.Outline.{Outline}
 use Rattle.m88_sourcing.specs.declared.reaching.Walk.{Walk}
 
 -- one of the words of code that were found branches to an address
 abbrev pub IsNamedBy : ProgramImage → Outline → ℕ → Type 0
-IsNamedBy image o t = (from : ℕ) × IsTrue (has_word o.code from) × BranchesTo image from t
+IsNamedBy image o t = (from : ℕ) × IsTrue (contains o.code from) × BranchesTo image from t
 
 -- the labels and the far targets that were found are the targets of the words of code that were
 pub record NamesTargets (image : ProgramImage) (o : Outline) : Type 0 where
-  pub labels : (a : ℕ) → IsTrue (has_word o.labels a) ↔ (IsNamedBy image o a × IsSome (byte_at image a))
+  pub labels : (a : ℕ) → IsTrue (contains o.labels a) ↔ (IsNamedBy image o a × IsSome (byte_at image a))
   pub far : (a : ℕ) → IsTrue (has nat_cmp o.far a) ↔ (IsNamedBy image o a × (byte_at image a ≡ None))
 
 -- the instruction at an address has its delay slot at another, where one may stand or not
@@ -34,21 +34,21 @@ IsReachedIfCode image seeds a = HasInstruction image a → IsReached image seeds
 
 -- what a walk has found is reached from these addresses
 pub record IsWalkSound (image : ProgramImage) (seeds : List ℕ) (w : Walk) : Type 0 where
-  pub code : (a : ℕ) → IsTrue (has_word w.outline.code a) → IsReached image seeds a
+  pub code : (a : ℕ) → IsTrue (contains w.outline.code a) → IsReached image seeds a
   pub heads : (a : ℕ) → Contains w.heads.items a → IsReachedIfCode image seeds a
   pub slots : (b : ℕ) → Contains w.slots.items b → (a : ℕ) × IsReached image seeds a × HasSlot image a b
 
 -- of each word of code that it has found it has those to which the word leads, but for heads of further ways and for
 -- addresses that are left
 pub record IsClosed (image : ProgramImage) (w : Walk) (Left : ℕ → Type 0) : Type 0 where
-  pub leads : (a b : ℕ) → IsTrue (has_word w.outline.code a) → IsReachedFrom image a b
-      → IsTrue (has_word w.outline.code b) ⊎ (Contains w.heads.items b ⊎ Left b)
-  pub slots : (a b : ℕ) → IsTrue (has_word w.outline.code a) → HasSlot image a b
+  pub leads : (a b : ℕ) → IsTrue (contains w.outline.code a) → IsReachedFrom image a b
+      → IsTrue (contains w.outline.code b) ⊎ (Contains w.heads.items b ⊎ Left b)
+  pub slots : (a b : ℕ) → IsTrue (contains w.outline.code a) → HasSlot image a b
       → Contains w.slots.items b ⊎ MayLeadTo image a b
   pub names : NamesTargets image w.outline
 
 -- what was found stays
 pub record Keeps (old new : Walk) : Type 0 where
-  pub code : (a : ℕ) → IsTrue (has_word old.outline.code a) → IsTrue (has_word new.outline.code a)
+  pub code : (a : ℕ) → IsTrue (contains old.outline.code a) → IsTrue (contains new.outline.code a)
   pub more : List ℕ
   pub heads : new.heads.items ≡ old.heads.items ++ more

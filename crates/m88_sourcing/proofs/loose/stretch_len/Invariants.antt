@@ -1,13 +1,13 @@
 -- So far none has a label, up to the beginning of a word.
 use Rattle.std.proofs.Common.{◌≡◌, ◌+◌, ◌-◌, ◌%◌, ◌<◌, ℕ, length, IsTrue}
-use Rattle.m88_sourcing.specs.Inside.Words.{has_word}
+use Rattle.std.specs.FinSet.{contains}
 use Rattle.m88_sourcing.proofs.loose.stretch_len.Given as goal
 
 abbrev pub invariant-loop-len : goal.invariant-loop-len
 invariant-loop-len l = record {
   some : 0 < l.len;
   whole : (l.at + l.len) % 4 ≡ 0;
-  plain : (k : ℕ) → 0 < k → k < l.len → ¬ IsTrue (has_word l.labels (l.at + k));
+  plain : (k : ℕ) → 0 < k → k < l.len → ¬ IsTrue (contains l.labels (l.at + k));
   low : l.len < length l.bytes + 4;
 }
 

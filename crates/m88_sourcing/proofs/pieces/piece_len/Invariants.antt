@@ -1,6 +1,6 @@
 -- So far all are as the first, up to the beginning of a word.
 use Rattle.std.proofs.Common.{◌≡◌, ◌+◌, ◌-◌, ◌%◌, ◌<◌, ℕ, length}
-use Rattle.m88_sourcing.specs.Inside.Words.{IsLooking, has_word}
+use Rattle.std.specs.FinSet.{contains}
 use Rattle.m88_sourcing.specs.Inside.Members.{AsAt}
 use Rattle.m88_sourcing.proofs.pieces.piece_len.Given as goal
 
@@ -8,9 +8,7 @@ abbrev pub invariant-loop-len : goal.invariant-loop-len
 invariant-loop-len l = record {
   some : 0 < l.len;
   whole : (l.at + l.len) % 4 ≡ 0;
-  even : (k : ℕ) → k < l.len → AsAt (has_word l.code) l.at (l.at + k);
-  looking : IsLooking l.looking;
-  words : l.looking.words.now ≡ l.code;
+  even : (k : ℕ) → k < l.len → AsAt (contains l.code) l.at (l.at + k);
   low : l.len < length l.bytes + 4;
 }
 

@@ -1,12 +1,8 @@
 -- One word more, and all.
-use Rattle.std.proofs.Common.{◌≡◌, ◌∙◌, ◌+◌, ◌*◌, ◌/◌, ◌%◌, ◌<◌, ◌≤◌, ℕ, List, None, IsTrue, ap, arith, inl, inr, refl, slice_get, subst, sym}
-use Rattle.std.specs.Prelude.{◌↔◌}
+use Rattle.std.proofs.Common.{◌≡◌, ◌∙◌, ◌+◌, ◌*◌, ◌/◌, ◌%◌, ◌<◌, ◌≤◌, ℕ, List, None, ap, arith, inl, inr, refl, slice_get, subst, sym}
 use Rattle.std.proofs.lemmas.Bool.{cases_lt}
 use Rattle.m88_base.specs.Image.{ProgramImage, byte_at}
 use Rattle.m88_sourcing.specs.Code.{HasInstruction}
-use Rattle.m88_sourcing.specs.Inside.Words.{has_word}
-use Rattle.m88_sourcing.specs.Labels.{HasLabel}
-use Rattle.m88_sourcing.specs.declared.words.Words.{Words}
 use Rattle.m88_sourcing.proofs.Appending.{front_then}
 use Rattle.m88_sourcing.proofs.Cutting.{all_code, next_word, no_byte_within}
 use Rattle.m88_sourcing.proofs.OneInstruction.{dropped}
@@ -48,20 +44,14 @@ push_code_word-requires-clause-there c = λ k four.
     ∙ sym (dropped n c.rest-bytes.result.now k))
 
 pub loop-index-preserved : goal.loop-index-preserved
-loop-index-preserved c = record {
-  looking = c.in_ok-push_code_word.ensures.looking;
-  words = (λ i. (c.in_ok-push_code_word.ensures.same i).now) ∙ c.loop-index.invariant.words;
-  text = λ entries is.
-      front_then _ _ _ c.args.text.now.items c.loop-index.text.items c.push_code_word.new.text.items
-      (c.loop-index.invariant.text entries is)
-      (next_word c.args.image.now entries c.args.at c.loop-index.index c.args.words (c.args.at + 4 * c.loop-index.index)
-      c.loop-index.text.items c.push_code_word.new.text.items c.loop-index-test.true refl
-      (λ n. c.in_ok-push_code_word.ensures.lines entries n
-      (subst (λ (w : Words). (a : ℕ) → IsTrue (has_word w a) ↔ HasLabel c.args.image.now entries a)
-      (sym c.loop-index.invariant.words) is.labels)));
-}
+loop-index-preserved c = λ entries is.
+    front_then _ _ _ c.args.text.now.items c.loop-index.text.items c.push_code_word.new.text.items
+    (c.loop-index.invariant entries is)
+    (next_word c.args.image.now entries c.args.at c.loop-index.index c.args.words (c.args.at + 4 * c.loop-index.index)
+    c.loop-index.text.items c.push_code_word.new.text.items c.loop-index-test.true refl
+    (λ n. c.in_ok-push_code_word.ensures entries n is.labels))
 
 pub returns : goal.returns
 returns c = λ entries is.
     all_code c.args.image.now entries c.args.at c.loop-index.index c.args.words _ _ (omega arith)
-    (c.loop-index.invariant.text entries is)
+    (c.loop-index.invariant entries is)

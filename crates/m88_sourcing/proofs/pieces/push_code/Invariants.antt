@@ -1,17 +1,12 @@
 -- The lines of the words so far are there.
-use Rattle.std.proofs.Common.{◌≡◌, ◌+◌, ◌-◌, ◌*◌, ℕ, List, []}
+use Rattle.std.proofs.Common.{◌+◌, ◌-◌, ◌*◌, ℕ, List, []}
 use Rattle.m88_sourcing.specs.Inside.Appended.{FrontAppended}
 use Rattle.m88_sourcing.specs.Inside.Members.{OutlinesImage}
-use Rattle.m88_sourcing.specs.Inside.Words.{IsLooking}
 use Rattle.m88_sourcing.specs.Source.{AreCodeLines}
 use Rattle.m88_sourcing.proofs.pieces.push_code.Given as goal
 
 abbrev pub invariant-loop-index : goal.invariant-loop-index
-invariant-loop-index l = record {
-  looking : IsLooking l.labels;
-  words : l.labels.words.now ≡ l.outline.labels;
-  text : (entries : List ℕ) → OutlinesImage l.image entries l.outline
-      → FrontAppended (AreCodeLines (λ _. []) l.image entries l.at l.words)
-      (AreCodeLines (λ _. []) l.image entries (l.at + 4 * l.index) (l.words - l.index)) l.initial.text.items
-      l.text.items;
-}
+invariant-loop-index l =
+    (entries : List ℕ) → OutlinesImage l.image entries l.outline
+    → FrontAppended (AreCodeLines (λ _. []) l.image entries l.at l.words)
+    (AreCodeLines (λ _. []) l.image entries (l.at + 4 * l.index) (l.words - l.index)) l.initial.text.items l.text.items

@@ -18,15 +18,15 @@ unreachable-requires c =
     (sym c.in-None.is ∙ c.instruction_in.ensures.only c.args.image.now c.args.at c.requires.stands.0 c.requires.there
     c.requires.stands.1)
 
-pub returns-clause-lines : goal.returns-clause-lines
-returns-clause-lines c =
+pub returns : goal.returns
+returns c =
     on_ok_weaker c.push_instruction.result
     (λ text entries n is.
     word_front c.args.image.now entries c.args.at n c.in-Some.instr c.args.text.now.items c.push_label_at.new.text.items
     c.push_start_at.new.text.items c.push_instruction.new.text.items (held c.args.image.now c.args.at c.requires.stands.0 c.in-Some.instr c.requires.stands.1
     (c.in-Some.ensures.only c.args.image.now c.args.at c.requires.stands.0 c.requires.there c.requires.stands.1))
     (lines_where _ _ _ _ _
-    (λ h. (is c.args.at).0 (sym c.contains.ensures.value ∙ h), λ h. c.contains.ensures.value ∙ (is c.args.at).1 h)
+    (λ h. (is c.args.at).0 (sym c.contains.ensures ∙ h), λ h. c.contains.ensures ∙ (is c.args.at).1 h)
     c.in_ok-push_label_at.ensures)
     (lines_where _ _ _ _ _ (λ e. e ∙ c.start.ensures, λ e. e ∙ sym c.start.ensures) c.in_ok-push_start_at.ensures)
     text)

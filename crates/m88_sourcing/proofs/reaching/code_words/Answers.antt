@@ -2,7 +2,7 @@
 use Rattle.std.proofs.Common.{◌⊎◌, ℕ, Contains, IsTrue, List, subst}
 use Rattle.std.specs.Prelude.{◌↔◌}
 use Rattle.m88_sourcing.specs.Code.{HasInstruction}
-use Rattle.m88_sourcing.specs.Inside.Words.{has_word}
+use Rattle.std.specs.FinSet.{contains}
 use Rattle.m88_sourcing.proofs.Outlining.{all_code}
 use Rattle.m88_sourcing.proofs.reaching.code_words.Goals as goal
 
@@ -13,7 +13,7 @@ returns-clause-code c =
     c.in_ok-seeds.ensures c.in_ok-outline.ensures.sound c.in_ok-outline.ensures.all c.in_ok-outline.ensures.slots
     (λ a.
     subst
-    (λ (slots : List ℕ). IsTrue (has_word c.note_slots.new.outline.code a)
-    ↔ (IsTrue (has_word c.in_ok-outline.field-0.outline.code a)
+    (λ (slots : List ℕ). IsTrue (contains c.note_slots.new.outline.code a)
+    ↔ (IsTrue (contains c.in_ok-outline.field-0.outline.code a)
     ⊎ (Contains slots a × HasInstruction c.args.image.now a)))
     c.deref.ensures.value (c.in_ok-note_slots.ensures.code a))

@@ -5,7 +5,7 @@ use Rattle.std.proofs.lemmas.List.Elements.{Contains-append_left}
 use Rattle.std.proofs.lemmas.Option.{slice_get-get_or}
 use Rattle.m88_sourcing.specs.Code.{HasInstruction}
 use Rattle.m88_sourcing.specs.Code.IsReached.{begins}
-use Rattle.m88_sourcing.specs.Inside.Words.{has_word}
+use Rattle.std.specs.FinSet.{contains}
 use Rattle.m88_sourcing.proofs.Reached.{all_reached}
 use Rattle.m88_sourcing.proofs.Walking.{left_as, stands_still}
 use Rattle.m88_sourcing.proofs.reaching.follow.Goals as goal
@@ -13,7 +13,7 @@ use Rattle.m88_sourcing.proofs.reaching.follow.Goals as goal
 pub loop-next-init : goal.loop-next-init
 loop-next-init c = record {
   sound = record {
-    code = λ a there. absurd (true≢false (sym there ∙ c.new.ensures.code a));
+    code = λ a there. absurd (true≢false (sym there ∙ c.in_ok-new.ensures.code a));
     heads = λ a seed stands. begins seed stands;
     slots = λ b there.
         let low = there.1 in
@@ -21,9 +21,9 @@ loop-next-init c = record {
         absurd (omega (arith, low, none));
   };
   closed = record {
-    leads = λ a b there led. absurd (true≢false (sym there ∙ c.new.ensures.code a));
-    slots = λ a b there is_slot. absurd (true≢false (sym there ∙ c.new.ensures.code a));
-    names = c.new.ensures.named c.args.image.now;
+    leads = λ a b there led. absurd (true≢false (sym there ∙ c.in_ok-new.ensures.code a));
+    slots = λ a b there is_slot. absurd (true≢false (sym there ∙ c.in_ok-new.ensures.code a));
+    names = c.in_ok-new.ensures.named;
   };
   seeds = λ a seed. seed;
   done = λ k b low there stands. absurd (omega (arith, low));
@@ -66,7 +66,7 @@ loop-next-preserved c =
                 let now : slice_get heads c.loop-next.next ≡ Some b = ap (λ (n : ℕ). slice_get heads n) (sym here)
                 ∙ was in
                 let same : b ≡ head = cc in
-                subst (λ (n : ℕ). IsTrue (has_word c.follow_way.new.walk.outline.code n)) (sym same)
+                subst (λ (n : ℕ). IsTrue (contains c.follow_way.new.walk.outline.code n)) (sym same)
                 (c.in_ok-follow_way.ensures.found (subst (λ (n : ℕ). HasInstruction c.args.image.now n) same stands))
           ];
     }
@@ -78,12 +78,12 @@ returns-clause-all c = λ a.
     let long : vec_len c.loop-next.walk.heads ≡ length heads = search rules in
     let all = c.loop-next-test.false in
     let found : (b : ℕ) → Contains heads b → HasInstruction c.args.image.now b
-    → IsTrue (has_word c.loop-next.walk.outline.code b) =
+    → IsTrue (contains c.loop-next.walk.outline.code b) =
     λ b head stands.
     let low = head.1 in
     c.loop-next.invariant.done head.0 b (omega (arith, low, len, long, all))
     (slice_get-get_or heads head.0 b head.1 ∙ ap (λ (n : ℕ). Some n) head.2) stands in
-    all_reached c.args.image.now c.args.seeds.items (λ b. IsTrue (has_word c.loop-next.walk.outline.code b))
+    all_reached c.args.image.now c.args.seeds.items (λ b. IsTrue (contains c.loop-next.walk.outline.code b))
     (λ b seed stands. found b (c.loop-next.invariant.seeds b seed) stands)
     (λ b d there led.
     elim (c.loop-next.invariant.closed.leads b d there led) [

@@ -2,7 +2,7 @@
 use Rattle.std.proofs.Common.{◌≡◌, ℕ, List, Some, IfSome, IsTrue}
 use Rattle.m88_sourcing.specs.Code.{HasInstruction}
 use Rattle.m88_sourcing.specs.Inside.Walks.{IsClosed, IsReachedIfCode, IsWalkSound, Keeps}
-use Rattle.m88_sourcing.specs.Inside.Words.{has_word}
+use Rattle.std.specs.FinSet.{contains}
 use Rattle.m88_sourcing.proofs.reaching.follow_way.Given as goal
 
 abbrev pub invariant-loop : goal.invariant-loop
@@ -11,5 +11,5 @@ invariant-loop l = record {
   sound : (seeds : List ℕ) → IsWalkSound l.image seeds l.fn.walk → IsReachedIfCode l.image seeds l.head
       → IsWalkSound l.image seeds l.walk × IfSome l.next (IsReachedIfCode l.image seeds);
   keeps : Keeps l.fn.walk l.walk;
-  found : HasInstruction l.image l.head → IsTrue (has_word l.walk.outline.code l.head);
+  found : HasInstruction l.image l.head → IsTrue (contains l.walk.outline.code l.head);
 }

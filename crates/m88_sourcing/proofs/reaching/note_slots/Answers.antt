@@ -2,7 +2,7 @@
 use Rattle.std.proofs.Common.{◌⊎◌, List, ℕ, Contains, IsTrue, subst, take_all}
 use Rattle.std.specs.Prelude.{◌↔◌}
 use Rattle.m88_sourcing.specs.Code.{HasInstruction}
-use Rattle.m88_sourcing.specs.Inside.Words.{has_word}
+use Rattle.std.specs.FinSet.{contains}
 use Rattle.m88_sourcing.proofs.Outlining.{slot_more}
 use Rattle.m88_sourcing.proofs.reaching.note_slots.Goals as goal
 
@@ -17,6 +17,6 @@ loop-slot-preserved c = record {
 pub returns-clause-code : goal.returns-clause-code
 returns-clause-code c = λ a.
     subst
-    (λ (slots : List ℕ). IsTrue (has_word c.loop-slot.outline.code a)
-    ↔ (IsTrue (has_word c.args.outline.now.code a) ⊎ (Contains slots a × HasInstruction c.args.image.now a)))
+    (λ (slots : List ℕ). IsTrue (contains c.loop-slot.outline.code a)
+    ↔ (IsTrue (contains c.args.outline.now.code a) ⊎ (Contains slots a × HasInstruction c.args.image.now a)))
     (take_all c.loop-slot.slot-index c.args.slots.now c.loop-slot-test.false) (c.loop-slot.invariant.code a)

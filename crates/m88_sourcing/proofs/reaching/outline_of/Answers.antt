@@ -4,7 +4,7 @@ use Rattle.std.specs.Prelude.{◌↔◌, Contains, IsSome}
 use Rattle.m88_base.specs.Image.{byte_at}
 use Rattle.m88_isa.specs.Address.{word_address}
 use Rattle.m88_sourcing.specs.Inside.Walks.{IsNamedBy}
-use Rattle.m88_sourcing.specs.Inside.Words.{has_word}
+use Rattle.std.specs.FinSet.{contains}
 use Rattle.m88_sourcing.specs.Labels.{IsTarget}
 use Rattle.m88_sourcing.proofs.Outlining.{entry_more, no_entry, with_target}
 use Rattle.m88_sourcing.proofs.reaching.outline_of.Goals as goal
@@ -37,7 +37,7 @@ returns c =
       code = c.loop-entry.invariant.code;
       labels = λ a.
           subst
-          (λ (entries : List ℕ). IsTrue (has_word c.loop-entry.outline.labels a)
+          (λ (entries : List ℕ). IsTrue (contains c.loop-entry.outline.labels a)
           ↔ (IsSome (byte_at image a)
           × (IsTarget image c.args.entries.now a ⊎ Contains (map word_address entries) a)))
           (take_all c.loop-entry.entry-index c.args.entries.now c.loop-entry-test.false)
