@@ -1,11 +1,10 @@
 -- The pieces of an image, and the lines of words, stretches and pieces before the others.
 use Rattle.std.proofs.Common.{◌≡◌, ℕ, zero, suc, ◌+◌, ◌*◌, ◌-◌, ◌/◌, ◌%◌, ◌<◌, Bool, inl, inr, List, [], ◌∷◌, ◌++◌, take, drop, refl, ap, subst, ◌∙◌, arith}
-use Rattle.std.specs.Prelude.{◌↔◌, Option, None, Some, IsSome}
+use Rattle.std.specs.Prelude.{◌↔◌, None}
 use Rattle.m88_base.specs.Found.{IsPart}
 use Rattle.m88_base.specs.Image.{ProgramImage, byte_at}
 use Rattle.m88_base.specs.Lines.{line_end}
 use Rattle.m88_isa.specs.Address.{word_address}
-use Rattle.m88_isa.specs.Machine.{word_bytes}
 use Rattle.m88_isa.specs.declared.instr.Instr.{Instr}
 use Rattle.m88_disasm.specs.Listing.{place_line}
 use Rattle.m88_sourcing.specs.Code.{HasInstruction, InCode, IsCode, IsReached, HoldsInstruction}
@@ -20,6 +19,7 @@ use Rattle.m88_sourcing.specs.Source.LineWhere.{so, not_so}
 use Rattle.m88_sourcing.specs.Source.AreCodeLines.{no_word, word}
 use Rattle.m88_sourcing.specs.Source.AreLooseLines.{stretch}
 use Rattle.m88_sourcing.specs.Source.ArePieceLines.{code, loose}
+use Rattle.m88_sourcing.proofs.OneInstruction.{no_byte_within}
 use Rattle.m88_sourcing.proofs.Appending.{front_all, line_before, lines_before}
 
 -- the bytes of a word are code together
@@ -34,32 +34,6 @@ reached_stands image seeds a (leads from led) = led.4
 pub code_stands : (image : ProgramImage) (entries : List ℕ) (a : ℕ) → IsCode image entries a → HasInstruction image a
 code_stands image entries a (reached r) = reached_stands image _ a r
 code_stands image entries a (in_slot b r is_slot) = is_slot.3
-
--- its four bytes are there
-four_some : (a b c d : Option ℕ) (xs : List ℕ) → word_bytes a b c d ≡ Some xs
-    → IsSome a × IsSome b × IsSome c × IsSome d
-four_some (Some a) (Some b) (Some c) (Some d) xs e = (refl, refl, refl, refl)
-four_some None b c d xs e = absurd cc
-four_some (Some a) None c d xs e = absurd cc
-four_some (Some a) (Some b) None d xs e = absurd cc
-four_some (Some a) (Some b) (Some c) None xs e = absurd cc
-
-some_none : (o : Option ℕ) → IsSome o → o ≡ None → ⊥
-some_none (Some b) some e = absurd cc
-some_none None some e = absurd cc
-
-pub no_byte_within : (image : ProgramImage) (a k : ℕ) → HasInstruction image a → k < 4 → byte_at image (a + k) ≡ None → ⊥
-no_byte_within image a k h low none =
-    by (four_some (byte_at image a) (byte_at image (a + 1)) (byte_at image (a + 2)) (byte_at image (a + 3)) _ h.1.0.1.1) k
-    low none
-  where
-    by : IsSome (byte_at image a) × IsSome (byte_at image (a + 1)) × IsSome (byte_at image (a + 2))
-        × IsSome (byte_at image (a + 3)) → (j : ℕ) → j < 4 → byte_at image (a + j) ≡ None → ⊥
-    by f zero l n = some_none (byte_at image a) f.0 (ap (byte_at image) (let e : a ≡ a + 0 = omega arith in e) ∙ n)
-    by f (suc zero) l n = some_none (byte_at image (a + 1)) f.1 n
-    by f (suc (suc zero)) l n = some_none (byte_at image (a + 2)) f.2 n
-    by f (suc (suc (suc zero))) l n = some_none (byte_at image (a + 3)) f.3 n
-    by f (suc (suc (suc (suc j)))) l n = absurd (omega (arith, l))
 
 -- where no byte is no code is
 pub no_code_there : (image : ProgramImage) (entries : List ℕ) (a : ℕ) → byte_at image a ≡ None

@@ -48,10 +48,9 @@ use Rattle.m88_sourcing.specs.Labels.{label_of}
 use Rattle.m88_sourcing.specs.Targets.{counting}
 use Rattle.m88_sourcing.proofs.Accepted.{IsNear, not_too_far, uses_near}
 use Rattle.m88_sourcing.proofs.Branching.{BranchesThere, branches_there}
-use Rattle.m88_sourcing.proofs.Cutting.{no_byte_within}
 use Rattle.m88_sourcing.proofs.Moved.{StartsAt, found_one, newly}
 use Rattle.m88_sourcing.proofs.Names.{IsNameable, named, no_start, one_name}
-use Rattle.m88_sourcing.proofs.OneInstruction.{same_instruction}
+use Rattle.m88_sourcing.proofs.OneInstruction.{no_byte_within, same_instruction}
 use Rattle.m88_sourcing.proofs.Parted.{HasRoom, IsPartedAs, Parted, has_room, parted, parted_as, parted_runs, parted_tame}
 use Rattle.m88_sourcing.proofs.Places.{AllAt, AreNumbers, HasAt, IsBranchAt, IsPlain, IsSimple, WaitsFor, branch_kind, place_behind}
 use Rattle.m88_sourcing.proofs.Placing.{ArePlaced, IsInReach, IsPlaced, bytes_placed, pieces_from, placed_parts, placed_skeleton, reach_placed}

@@ -1,15 +1,23 @@
 -- What is code, what is named by it, and by the entries so far.
-use Rattle.std.proofs.Common.{◌≡◌, ◌⊎◌, ◌∙◌, ℕ, ◌+◌, ◌<◌, IsTrue, List, [], ◌∷◌, ◌++◌, ap, arith, get_or, inl, inr, length, map, subst, sym, take}
-use Rattle.std.specs.Prelude.{◌↔◌, Contains}
+use Rattle.std.proofs.Common.{eqb, ◌≡◌, ◌⊎◌, ◌∙◌, ℕ, ◌+◌, ◌<◌, IsTrue, List, [], ◌∷◌, ◌++◌, ap, arith, get_or, inl, inr, length, map, subst, sym, take}
+use Rattle.std.specs.Prelude.{◌↔◌, Contains, None}
+use Rattle.std.specs.Cmp.{nat_cmp_total, unsigned_tied}
+use Rattle.std.specs.List.{dedup}
+use Rattle.std.specs.List.Sorted.{IsPermutation, IsSorted, IsStrictlySortedBy}
+use Rattle.std.specs.Ordering.{nat_cmp}
+use Rattle.std.proofs.lemmas.List.Kept.{Contains-dedup_nat, Contains-from_dedup, IsStrictlySortedBy-dedup}
+use Rattle.std.proofs.lemmas.List.Sorted.{Contains-permutation, IsPermutation-sym}
 use Rattle.std.proofs.lemmas.List.{map-append, take_more}
 use Rattle.std.proofs.lemmas.List.Elements.{Contains-append_left, Contains-push, Contains-push_cases}
-use Rattle.m88_base.specs.Image.{ProgramImage}
+use Rattle.m88_base.specs.Image.{ProgramImage, byte_at}
 use Rattle.m88_isa.specs.Address.{word_address}
 use Rattle.m88_sourcing.specs.Code.{HasInstruction, IsCode, IsReached, seeds_of}
 use Rattle.m88_sourcing.specs.Code.IsCode.{in_slot, reached}
 use Rattle.m88_sourcing.specs.Code.IsReached.{leads}
 use Rattle.m88_sourcing.specs.Inside.Walks.{HasSlot, IsWalkSound, MayLeadTo}
 use Rattle.std.specs.FinSet.{contains}
+use Rattle.m88_sourcing.specs.Labels.{IsTarget}
+use Rattle.m88_sourcing.specs.Source.{AreFar}
 use Rattle.m88_sourcing.specs.declared.reaching.Walk.{Walk}
 use Rattle.m88_sourcing.specs.declared.words.Words.{Words}
 
@@ -114,3 +122,22 @@ entry_more entries index t Had Has Target Other low before last =
         ]
       ],
     )
+
+-- targets in ascending order, each once
+pub sorted_targets : (image : ProgramImage) (entries old sorted new : List ℕ) → IsPermutation old sorted
+    → IsSorted nat_cmp sorted → new ≡ dedup eqb sorted
+    → ((t : ℕ) → Contains old t ↔ (IsTarget image entries t × (byte_at image t ≡ None))) → AreFar image entries new
+sorted_targets image entries old sorted new moved rising new_is exactly = record {
+  ascending =
+      subst (λ (xs : List ℕ). IsStrictlySortedBy nat_cmp xs) (sym new_is)
+      (IsStrictlySortedBy-dedup nat_cmp_total (λ x y. sym (unsigned_tied x y)) sorted rising);
+  exactly = λ t. (
+    λ there.
+        (exactly t).0
+        (Contains-permutation sorted old t (IsPermutation-sym old sorted moved)
+        (Contains-from_dedup eqb sorted t (subst (λ (xs : List ℕ). Contains xs t) new_is there))),
+    λ is.
+        subst (λ (xs : List ℕ). Contains xs t) (sym new_is)
+        (Contains-dedup_nat sorted t (Contains-permutation old sorted t moved ((exactly t).1 is))),
+  );
+}

@@ -30,9 +30,10 @@ use Rattle.m88_sourcing.specs.Labels.{IsTarget, label_of}
 use Rattle.m88_sourcing.specs.Source.{AreFar, AreSourceLines, IsSource, LineWhere, far_line}
 use Rattle.m88_sourcing.specs.Source.LineWhere.{so, not_so}
 use Rattle.m88_sourcing.specs.Source.AreSourceLines.{no_part, part}
-use Rattle.m88_sourcing.proofs.Cutting.{code_stands, no_byte_within, part_whole}
+use Rattle.m88_sourcing.proofs.Cutting.{code_stands, part_whole}
 use Rattle.m88_sourcing.proofs.Labelled.{said_far}
 use Rattle.m88_sourcing.proofs.Names.{IsNameable, NameOnly, are_low, mean_one, name_before, name_behind, named, once_both, one_name, only_more, other_bytes}
+use Rattle.m88_sourcing.proofs.OneInstruction.{no_byte_within}
 use Rattle.m88_sourcing.proofs.Places.{HasAt, IsBranchTo}
 use Rattle.m88_sourcing.proofs.Runs.{InParts, ToldPart, ToldRuns, follow_order, runs_both, runs_from, runs_none, told_pieces}
 use Rattle.m88_sourcing.proofs.Told.{Among, AreThose, target_low}

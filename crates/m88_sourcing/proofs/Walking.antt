@@ -1,21 +1,22 @@
 -- A walk from word to word: what it has found stays reached, and what it hasn't found is left.
 use Rattle.std.proofs.Common.{◌≡◌, ◌⊎◌, ◌∙◌, ◌<◌, ℕ, zero, suc, length, slice_get, List, [], ◌∷◌, ◌++◌, inl, inr, IsTrue, None, Some, ap, append_assoc, arith, refl, subst, sym}
-use Rattle.std.specs.Prelude.{◌↔◌, Contains, IfSome, Option}
+use Rattle.std.specs.Prelude.{◌↔◌, Contains, IfSome, IsSome, Option}
+use Rattle.std.proofs.lemmas.Option.{none-some, same_Some}
 use Rattle.std.specs.Option.{option_to_list}
 use Rattle.std.proofs.lemmas.List.Elements.{Contains-append_cases, Contains-append_left, Contains-push, Contains-push_cases}
-use Rattle.m88_base.specs.Image.{ProgramImage}
+use Rattle.m88_base.specs.Image.{ProgramImage, byte_at}
 use Rattle.m88_isa.specs.declared.instr.Instr.{Instr}
 use Rattle.m88_sourcing.specs.Code.{HasInstruction, HoldsInstruction, IsReached, IsReachedFrom}
 use Rattle.m88_sourcing.specs.Code.IsReached.{leads}
 use Rattle.m88_sourcing.specs.Flow.{branch_target, slot}
-use Rattle.m88_sourcing.specs.Inside.Members.{Notes}
+use Rattle.m88_sourcing.specs.Inside.Members.{AddsLabel, Notes}
 use Rattle.m88_sourcing.specs.Inside.Walks.{HasSlot, IsClosed, IsNamedBy, IsReachedIfCode, IsWalkSound, Keeps, MayLeadTo, NamesTargets}
 use Rattle.std.specs.FinSet.{contains}
 use Rattle.m88_sourcing.specs.Labels.{BranchesTo}
 use Rattle.m88_sourcing.specs.declared.outline.Outline.{Outline}
 use Rattle.m88_sourcing.specs.declared.reaching.Walk.{Walk}
 use Rattle.m88_sourcing.specs.declared.words.Words.{Words}
-use Rattle.m88_sourcing.proofs.OneInstruction.{same_instruction}
+use Rattle.m88_sourcing.proofs.OneInstruction.{first_byte, same_instruction, some_none}
 
 -- one address more, where there is one
 pub with_one : (xs ys : List ℕ) (o : Option ℕ) (b : ℕ) → ys ≡ xs ++ option_to_list o → Contains ys b
@@ -77,6 +78,75 @@ names_more image old code new at i holds names more notes =
       far = λ a. named_more image old new at a i _ _ _ holds now (names.far a) (notes.far a);
     }
 
+-- what was noted, where the target is known: none, one that is a label already, or another
+pub notes_none : (image : ProgramImage) (o : Outline) (at : ℕ) (i : Instr) → branch_target at i ≡ None
+    → Notes image (λ a. branch_target at i ≡ Some a) o o
+notes_none image o at i none = record {
+  code = refl;
+  labels = λ a. (
+    λ h. inl h,
+    λ h. elim h [
+      | inl old ↦ old
+      | inr now ↦ absurd (none-some a (sym none ∙ now.0))
+    ],
+  );
+  far = λ a. (
+    λ h. inl h,
+    λ h. elim h [
+      | inl old ↦ old
+      | inr now ↦ absurd (none-some a (sym none ∙ now.0))
+    ],
+  );
+}
+
+pub notes_again : (image : ProgramImage) (o : Outline) (at t : ℕ) (i : Instr) → branch_target at i ≡ Some t
+    → IsTrue (contains o.labels t) → IsSome (byte_at image t) → Notes image (λ a. branch_target at i ≡ Some a) o o
+notes_again image o at t i to there some = record {
+  code = refl;
+  labels = λ a. (
+    λ h. inl h,
+    λ h. elim h [
+      | inl old ↦ old
+      | inr now ↦
+          let same : t ≡ a = same_Some t a (sym to ∙ now.0) in
+          subst (λ (n : ℕ). IsTrue (contains o.labels n)) same there
+    ],
+  );
+  far = λ a. (
+    λ h. inl h,
+    λ h. elim h [
+      | inl old ↦ old
+      | inr now ↦
+          let same : t ≡ a = same_Some t a (sym to ∙ now.0) in
+          absurd (some_none (byte_at image a) (subst (λ (n : ℕ). IsSome (byte_at image n)) same some) now.1)
+    ],
+  );
+}
+
+pub notes_as : (image : ProgramImage) (old new : Outline) (at t : ℕ) (i : Instr) → branch_target at i ≡ Some t
+    → Notes image (λ a. a ≡ t) old new → Notes image (λ a. branch_target at i ≡ Some a) old new
+notes_as image old new at t i to notes =
+    let named : (a : ℕ) → (a ≡ t) ↔ (branch_target at i ≡ Some a) =
+    λ a. (λ e. to ∙ ap (λ (n : ℕ). Some n) (sym e), λ h. same_Some a t (sym h ∙ to)) in
+    record {
+      code = notes.code;
+      labels = λ a. as_named _ _ _ _ _ (notes.labels a) (named a);
+      far = λ a. as_named _ _ _ _ _ (notes.far a) (named a);
+    }
+  where
+    as_named : (Has Had Named Target Other : Type 0) → Has ↔ (Had ⊎ (Named × Other)) → Named ↔ Target
+        → Has ↔ (Had ⊎ (Target × Other))
+    as_named Has Had Named Target Other is named = (
+      λ has. elim (is.0 has) [
+        | inl old ↦ inl old
+        | inr now ↦ inr (named.0 now.0, now.1)
+      ],
+      λ h. elim h [
+        | inl old ↦ is.1 (inl old)
+        | inr now ↦ is.1 (inr (named.1 now.0, now.1))
+      ],
+    )
+
 -- the targets of the same words
 pub names_same : (image : ProgramImage) (old : Outline) (code : Words)
     → ((a : ℕ) → IsTrue (contains code a) ↔ IsTrue (contains old.code a)) → NamesTargets image old
@@ -111,9 +181,9 @@ once_more old new at there more a = (
 -- nothing is left at a word that was found before
 pub again_closed : (image : ProgramImage) (w : Walk) (o : Outline) (at : ℕ) (Left : ℕ → Type 0)
     → IsTrue (contains w.outline.code at) → ((a : ℕ) → IsTrue (contains o.code a) ↔ IsTrue (contains w.outline.code a))
-    → NamesTargets image o → IsClosed image w (λ b. b ≡ at)
+    → NamesTargets image o → AddsLabel w.outline o None → IsClosed image w (λ b. b ≡ at)
     → IsClosed image (record { outline = o; heads = w.heads; slots = w.slots }) Left
-again_closed image w o at Left here same names closed = record {
+again_closed image w o at Left here same names labels closed = record {
   leads = λ a b there led.
       elim (closed.leads a b ((same a).0 there) led) [
         | inl found ↦ inl ((same b).1 found)
@@ -124,6 +194,11 @@ again_closed image w o at Left here same names closed = record {
       ];
   slots = λ a b there. closed.slots a b ((same a).0 there);
   names = names;
+  labels = λ a there.
+      elim (labels a there) [
+        | inl was ↦ closed.labels a was
+        | inr none ↦ absurd (none-some a none)
+      ];
 }
 
 pub again_sound : (image : ProgramImage) (seeds : List ℕ) (w : Walk) (o : Outline)
@@ -150,6 +225,7 @@ left_as image w Left Other other closed = record {
       ];
   slots = closed.slots;
   names = closed.names;
+  labels = closed.labels;
 }
 
 -- where nothing is left but what was found
@@ -169,55 +245,67 @@ none_left image w at Left found closed = record {
       ];
   slots = closed.slots;
   names = closed.names;
+  labels = closed.labels;
 }
 
 -- one word more, whose slot and whose target were noted or are left
-pub more_closed : (image : ProgramImage) (old new : Walk) (at : ℕ) (next slot_there : Option ℕ) (i : Instr)
+pub more_closed : (image : ProgramImage) (old new : Walk) (at : ℕ) (next slot_there label : Option ℕ) (i : Instr)
     → HoldsInstruction image at i → IsClosed image old (λ b. b ≡ at)
     → ((a : ℕ) → IsTrue (contains new.outline.code a) ↔ (IsTrue (contains old.outline.code a) ⊎ (a ≡ at)))
-    → NamesTargets image new.outline → slot_there ≡ slot at i
+    → NamesTargets image new.outline → AddsLabel old.outline new.outline label → slot_there ≡ slot at i
     → ((b : ℕ) → Contains old.slots.items b → Contains new.slots.items b)
     → ((b : ℕ) → slot_there ≡ Some b → Contains new.slots.items b ⊎ (next ≡ Some b))
     → ((b : ℕ) → next ≡ Some b → MayLeadTo image at b)
-    → ((b : ℕ) → MayLeadTo image at b → Contains new.heads.items b ⊎ (next ≡ Some b))
-    → ((more : List ℕ) × (new.heads.items ≡ old.heads.items ++ more))
+    → ((b : ℕ) → MayLeadTo image at b → (branch_target at i ≡ Some b) ⊎ (next ≡ Some b))
+    → new.heads.items ≡ old.heads.items ++ option_to_list label
     → IsClosed image new (λ b. next ≡ Some b)
-more_closed image old new at next slot_there i holds closed code names slot_is stay slots on heads keeps = record {
-  leads = λ a b there led.
-      elim ((code a).0 there) [
-        | inl was ↦ elim (closed.leads a b was led) [
-          | inl found ↦ inl ((code b).1 (inl found))
-          | inr further ↦ elim further [
-            | inl head ↦
-                inr (inl (subst (λ (xs : List ℕ). Contains xs b) (sym keeps.1)
-                (Contains-append_left old.heads.items keeps.0 b head)))
-            | inr same ↦ inl ((code b).1 (inr same))
-          ]
-        ]
-        | inr same ↦
-            let here : IsReachedFrom image at b = subst (λ (n : ℕ). IsReachedFrom image n b) same led in
-            elim (heads b (here.0, here.1, here.2, here.3)) [
-              | inl head ↦ inr (inl head)
-              | inr further ↦ inr (inr further)
+more_closed image old new at next slot_there label i holds closed code names adds slot_is stay slots on goes heads =
+    record {
+      leads = λ a b there led.
+          elim ((code a).0 there) [
+            | inl was ↦ elim (closed.leads a b was led) [
+              | inl found ↦ inl ((code b).1 (inl found))
+              | inr further ↦ elim further [
+                | inl head ↦ inr (inl (stays_head b head))
+                | inr same ↦ inl ((code b).1 (inr same))
+              ]
             ]
-      ];
-  slots = λ a b there is_slot.
-      elim ((code a).0 there) [
-        | inl was ↦ elim (closed.slots a b was is_slot) [
-          | inl old_slot ↦ inl (stay b old_slot)
-          | inr led ↦ inr led
-        ]
-        | inr same ↦
-            let here : HasSlot image at b = subst (λ (n : ℕ). HasSlot image n b) same is_slot in
-            let one : i ≡ here.0 = same_instruction image at i here.0 holds here.1 in
-            elim (slots b (slot_is ∙ ap (λ (k : Instr). slot at k) one ∙ here.2)) [
-              | inl now ↦ inl now
-              | inr further ↦
-                  inr (subst (λ (n : ℕ). MayLeadTo image n b) (sym same) (on b further))
+            | inr same ↦
+                let here : IsReachedFrom image at b = subst (λ (n : ℕ). IsReachedFrom image n b) same led in
+                elim (goes b (here.0, here.1, here.2, here.3)) [
+                  | inl to ↦
+                      inr (inl (is_head b ((names.labels b).1
+                      ((at, (code at).1 (inr refl), (i, holds, to)), first_byte image b here.4))))
+                  | inr further ↦ inr (inr further)
+                ]
+          ];
+      slots = λ a b there is_slot.
+          elim ((code a).0 there) [
+            | inl was ↦ elim (closed.slots a b was is_slot) [
+              | inl old_slot ↦ inl (stay b old_slot)
+              | inr led ↦ inr led
             ]
-      ];
-  names = names;
-}
+            | inr same ↦
+                let here : HasSlot image at b = subst (λ (n : ℕ). HasSlot image n b) same is_slot in
+                let one : i ≡ here.0 = same_instruction image at i here.0 holds here.1 in
+                elim (slots b (slot_is ∙ ap (λ (k : Instr). slot at k) one ∙ here.2)) [
+                  | inl now ↦ inl now
+                  | inr further ↦
+                      inr (subst (λ (n : ℕ). MayLeadTo image n b) (sym same) (on b further))
+                ]
+          ];
+      names = names;
+      labels = is_head;
+    }
+  where
+    stays_head : (b : ℕ) → Contains old.heads.items b → Contains new.heads.items b
+    stays_head b head = (with_one old.heads.items new.heads.items label b heads).1 (inl head)
+
+    is_head : (b : ℕ) → IsTrue (contains new.outline.labels b) → Contains new.heads.items b
+    is_head b there = elim (adds b there) [
+      | inl was ↦ stays_head b (closed.labels b was)
+      | inr now ↦ (with_one old.heads.items new.heads.items label b heads).1 (inr now)
+    ]
 
 -- an address to which a reached one leads
 led_to : (image : ProgramImage) (seeds : List ℕ) (a b : ℕ) → IsReached image seeds a → MayLeadTo image a b
@@ -282,6 +370,9 @@ ended_closed image w new next outline slots heads closed = record {
       subst (λ s. Contains s.items b ⊎ MayLeadTo image a b) (sym slots)
       (closed.slots a b (subst (λ (o : Outline). IsTrue (contains o.code a)) outline there) is_slot);
   names = subst (λ (o : Outline). NamesTargets image o) (sym outline) closed.names;
+  labels = λ a there.
+      (with_one w.heads.items new.heads.items next a heads).1
+      (inl (closed.labels a (subst (λ (o : Outline). IsTrue (contains o.labels a)) outline there)));
 }
 
 pub ended_sound : (image : ProgramImage) (seeds : List ℕ) (w : Walk) (new : Walk) (next : Option ℕ)

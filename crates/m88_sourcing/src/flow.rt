@@ -1,5 +1,5 @@
 //! Where an instruction leads, without a look at registers.
-ghost use Rattle.std.specs.Prelude.{◌≡◌};
+ghost use Rattle.std.specs.Prelude.{◌≡◌, ℕ, IsTrue, None};
 ghost use Rattle.m88_isa.specs.Flow.{words_away};
 ghost use Rattle.m88_sourcing.specs.Flow.{asks_for_end, goes_on_to, calls_monitor, slot, branch_target};
 
@@ -60,7 +60,8 @@ pub(crate) fn slot(pc: u32, instr: &Instr) -> Option<u32>
 
 /// Whether it is a trap to the monitor that is always taken.
 pub(crate) fn calls_monitor(instr: &Instr) -> bool
-    ensures { result ≡ calls_monitor instr.now }
+    ensures value { result ≡ calls_monitor instr.now }
+    ensures plain { IsTrue result → (pc : ℕ) → branch_target pc instr.now ≡ None }
 {
     match *instr {
         Instr::TrapBit {

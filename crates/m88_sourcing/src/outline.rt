@@ -4,7 +4,7 @@ ghost use Rattle.m88_base.specs.Image.{ProgramImage, byte_at};
 ghost use Rattle.m88_isa.specs.Address.{word_address};
 ghost use Rattle.m88_sourcing.specs.Code.{HoldsInstruction};
 ghost use Rattle.m88_sourcing.specs.Flow.{branch_target};
-ghost use Rattle.m88_sourcing.specs.Inside.Members.{Notes};
+ghost use Rattle.m88_sourcing.specs.Inside.Members.{AddsLabel, Notes, noted_label};
 ghost use Rattle.m88_sourcing.specs.Inside.Walks.{NamesTargets};
 ghost use Rattle.std.specs.FinSet.{contains};
 
@@ -13,14 +13,13 @@ use crate::words::Words;
 use m88_base::Image;
 use m88_isa::Instr;
 use std::alloc::{AllocError, Global};
-use std::collections::BTreeSet;
 
 /// The words that are code, the addresses that have a label, and the targets of branches that have no byte.
 #[derive(Drop)]
 pub(crate) struct Outline {
     pub code: Words,
     pub labels: Words,
-    pub far: BTreeSet<u32>,
+    pub far: Vec<u32>,
 }
 
 impl Outline {
@@ -32,58 +31,67 @@ impl Outline {
         Ok(Outline {
             code: Words::new(alloc, image)?,
             labels: Words::new(alloc, image)?,
-            far: BTreeSet::new(alloc),
+            far: Vec::new(alloc),
         })
     }
 }
 
-/// Notes an address that a branch names.
-fn note_target(outline: &mut Outline, image: &Image, at: u32) -> Result<(), AllocError>
-    ensures { OnOk result (Notes image.now (λ a. a ≡ at) outline.old outline.new) }
+/// What came of noting a word that is code.
+#[derive(Clone, Copy, PartialEq, Eq, Debug)]
+pub(crate) enum Noted {
+    /// It was noted before.
+    Before,
+    /// It is noted now, and so is this label, where its branch is the first to name one.
+    Now(Option<u32>),
+}
+
+/// Notes an address that a branch names, and answers it where it is a label now and wasn't before.
+fn note_target(outline: &mut Outline, image: &Image, at: u32) -> Result<Option<u32>, AllocError>
+    ensures notes { OnOk result (Notes image.now (λ a. a ≡ at) outline.old outline.new) }
+    ensures label { IfOk result (λ label. (a : ℕ) → label ≡ Some a → a ≡ at) }
+    ensures labels { IfOk result (AddsLabel outline.old outline.new) }
 {
-    if image.byte(at).is_some() {
-        outline.labels.insert(at)?;
+    if image.byte(at).is_none() {
+        outline.far.push(at)?;
+        return Ok(None);
+    }
+    if outline.labels.insert(at)? {
+        Ok(Some(at))
     } else {
-        outline.far.insert(at)?;
-    }
-    Ok(())
-}
-
-/// Notes the target of an instruction at an address.
-fn note_branch(
-    outline: &mut Outline,
-    image: &Image,
-    at: u32,
-    instr: &Instr,
-) -> Result<(), AllocError>
-    ensures { OnOk result
-        (Notes image.now (λ a. branch_target at instr.now ≡ Some a) outline.old outline.new) }
-{
-    match branch_target(at, instr) {
-        Some(target) => note_target(outline, image, target),
-        None => Ok(()),
+        Ok(None)
     }
 }
 
-/// Notes a word that is code, and the target of the instruction there. Whether the word wasn't noted yet.
+/// Notes a word that is code, and the target of the instruction there.
 pub(crate) fn note_word(
     outline: &mut Outline,
     image: &Image,
     at: u32,
     instr: &Instr,
-) -> Result<bool, AllocError>
+) -> Result<Noted, AllocError>
     requires holds { HoldsInstruction image.now at instr.now }
     requires named { NamesTargets image.now outline.old }
     ensures code { OnOk result ((a : ℕ) → IsTrue (contains outline.new.code a)
         ↔ (IsTrue (contains outline.old.code a) ⊎ (a ≡ at))) }
     ensures named { OnOk result (NamesTargets image.now outline.new) }
-    ensures again { IfOk result (λ is_new. is_new ≡ false → IsTrue (contains outline.old.code at)) }
+    ensures again { IfOk result (λ noted. noted ≡ Noted.Before
+        → IsTrue (contains outline.old.code at)) }
+    ensures label { IfOk result (λ noted. (a : ℕ) → noted_label noted ≡ Some a
+        → branch_target at instr.now ≡ Some a) }
+    ensures labels { IfOk result (λ noted.
+        AddsLabel outline.old outline.new (noted_label noted)) }
 {
     if !outline.code.insert(at)? {
-        return Ok(false);
+        return Ok(Noted::Before);
     }
-    note_branch(outline, image, at, instr)?;
-    Ok(true)
+    let Some(target) = branch_target(at, instr) else {
+        return Ok(Noted::Now(None));
+    };
+    if outline.labels.contains(target) {
+        return Ok(Noted::Now(None));
+    }
+    let label = note_target(outline, image, target)?;
+    Ok(Noted::Now(label))
 }
 
 /// Notes the word of an address at which code was said to begin.

@@ -2,13 +2,14 @@
 ghost use Rattle.std.specs.Prelude.{◌≡◌, ◌⊎◌, ◌↔◌, ◌++◌, ℕ, List, Some, Contains, IfOk, IfSome, OnOk, IsTrue};
 ghost use Rattle.std.specs.Option.{option_to_list};
 ghost use Rattle.m88_sourcing.specs.Code.{HasInstruction, HoldsInstruction, IsCode, IsReached, seeds_of};
+ghost use Rattle.m88_sourcing.specs.Flow.{branch_target};
 ghost use Rattle.m88_sourcing.specs.Inside.Members.{OutlinesImage};
-ghost use Rattle.m88_sourcing.specs.Inside.Walks.{HasSlot, IsClosed, IsReachedIfCode, IsWalkSound, Keeps, MayLeadTo, NamesTargets};
+ghost use Rattle.m88_sourcing.specs.Inside.Walks.{AreRest, HasSlot, IsClosed, IsReachedIfCode, IsWalkSound, Keeps, MayLeadTo, NamesTargets};
 ghost use Rattle.std.specs.FinSet.{contains};
 
-use crate::flow::{branch_target, goes_on_to, slot};
-use crate::outline::{Outline, note_entry, note_word};
-use crate::standing::{is_exit, standing};
+use crate::flow::{goes_on_to, slot};
+use crate::outline::{Noted, Outline, note_entry, note_word};
+use crate::standing::{bytes_on, is_exit, standing, standing_in};
 use m88_base::Image;
 use m88_isa::Instr;
 use std::alloc::{AllocError, Global};
@@ -55,32 +56,25 @@ fn push_other(
     push_if(addresses, at)
 }
 
-/// Notes the target of an instruction at an address as the head of a way, and answers where the program goes on.
-fn lead(
-    heads: &mut Vec<u32>,
-    image: &Image,
-    at: u32,
-    instr: &Instr,
-) -> Result<Option<u32>, AllocError>
+/// Where the program goes on behind an instruction at an address, which may end it.
+fn lead(image: &Image, at: u32, instr: &Instr) -> Option<u32>
     requires { HoldsInstruction image.now at instr.now }
-    ensures has { IfOk result (λ next. (b : ℕ) → MayLeadTo image.now at b
-        → Contains heads.new.items b ⊎ (next ≡ Some b)) }
-    ensures only { OnOk result ((b : ℕ) → Contains heads.new.items b
-        → Contains heads.old.items b ⊎ MayLeadTo image.now at b) }
-    ensures next { IfOk result (λ next. (b : ℕ) → next ≡ Some b → MayLeadTo image.now at b) }
-    ensures keeps { OnOk result ((more : List ℕ) × (heads.new.items ≡ heads.old.items ++ more)) }
+    ensures has { (b : ℕ) → MayLeadTo image.now at b
+        → (branch_target at instr.now ≡ Some b) ⊎ (result ≡ Some b) }
+    ensures only { (b : ℕ) → result ≡ Some b → MayLeadTo image.now at b }
+    ensures branch { (b : ℕ) → branch_target at instr.now ≡ Some b → MayLeadTo image.now at b }
 {
     if is_exit(image, at, instr) {
-        return Ok(None);
+        return None;
     }
-    push_if(heads, branch_target(at, instr))?;
-    Ok(goes_on_to(at, instr))
+    goes_on_to(at, instr)
 }
 
 /// Notes the word at an address with its slot and its target, where an instruction stands there that wasn't noted yet.
 /// Answers where the program goes on.
-fn step(walk: &mut Walk, image: &Image, at: u32) -> Result<Option<u32>, AllocError>
-    requires { IsClosed image.now walk.old (λ b. b ≡ at) }
+fn step(walk: &mut Walk, image: &Image, at: u32, bytes: &[u8]) -> Result<Option<u32>, AllocError>
+    requires closed { IsClosed image.now walk.old (λ b. b ≡ at) }
+    requires rest { AreRest image.now at bytes.now }
     ensures closed { IfOk result (λ next. IsClosed image.now walk.new (λ b. next ≡ Some b)) }
     ensures sound { IfOk result (λ next. (seeds : List ℕ) → IsWalkSound image.now seeds walk.old
         → IsReachedIfCode image.now seeds at
@@ -89,13 +83,14 @@ fn step(walk: &mut Walk, image: &Image, at: u32) -> Result<Option<u32>, AllocErr
     ensures found { OnOk result (HasInstruction image.now at
         → IsTrue (contains walk.new.outline.code at)) }
 {
-    let Some(instr) = standing(image, at) else {
+    let Some(instr) = standing_in(at, bytes) else {
         return Ok(None);
     };
-    if !note_word(&mut walk.outline, image, at, &instr)? {
+    let Noted::Now(label) = note_word(&mut walk.outline, image, at, &instr)? else {
         return Ok(None);
-    }
-    let next = lead(&mut walk.heads, image, at, &instr)?;
+    };
+    push_if(&mut walk.heads, label)?;
+    let next = lead(image, at, &instr);
     push_other(&mut walk.slots, slot(at, &instr), next)?;
     Ok(next)
 }
@@ -113,12 +108,16 @@ fn follow_way(walk: &mut Walk, image: &Image, head: u32) -> Result<(), AllocErro
     if walk.outline.code.contains(head) {
         return Ok(());
     }
-    let mut next = step(walk, image, head)?;
+    let mut at = head;
+    let mut bytes = image.rest(at);
+    let mut next = step(walk, image, at, bytes)?;
     for _ in 1..MOST_OF_A_WAY {
-        let Some(at) = next else {
+        let Some(to) = next else {
             return Ok(());
         };
-        next = step(walk, image, at)?;
+        bytes = bytes_on(image, at, bytes, to);
+        at = to;
+        next = step(walk, image, at, bytes)?;
     }
     push_if(&mut walk.heads, next)
 }
@@ -212,5 +211,7 @@ pub(crate) fn outline_of(
     for entry in entries {
         note_entry(&mut outline.labels, image, *entry)?;
     }
+    outline.far.sort_unstable();
+    outline.far.dedup();
     Ok(outline)
 }

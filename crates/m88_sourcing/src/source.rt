@@ -1,7 +1,5 @@
 //! The source of an image.
 ghost use Rattle.std.specs.Prelude.{◌≡◌, ◌++◌, ℕ, List, IfOk, OnOk, map};
-ghost use Rattle.std.specs.BTreeSet.{IsOrdered};
-ghost use Rattle.std.specs.Ordering.{nat_cmp};
 ghost use Rattle.m88_base.specs.Image.{IsImage};
 ghost use Rattle.m88_base.specs.Lines.{text_of_lines};
 ghost use Rattle.m88_disasm.specs.Read.{WritesImage};
@@ -16,11 +14,10 @@ use std::alloc::{AllocError, Global};
 
 /// Appends the lines that give the names of targets without a byte their values.
 fn push_all_far(text: &mut Vec<u8>, outline: &Outline) -> Result<(), AllocError>
-    ensures text { OnOk result (text.new.items
-        ≡ text.old.items ++ text_of_lines (map far_line outline.now.far.keys)) }
-    ensures ordered { IsOrdered nat_cmp outline.now.far }
+    ensures { OnOk result (text.new.items
+        ≡ text.old.items ++ text_of_lines (map far_line outline.now.far.items)) }
 {
-    for at in outline.far.iter() {
+    for at in &outline.far {
         push_far(text, *at)?;
     }
     Ok(())

@@ -1,19 +1,20 @@
 -- Sets of addresses, and what is known of an image before its source is written.
-use Rattle.std.specs.Prelude.{◌≡◌, ◌⊎◌, ◌↔◌, ℕ, Bool, List, None, IsSome, IsTrue}
-use Rattle.std.specs.BTreeSet.{contains as has}
-use Rattle.std.specs.Ordering.{nat_cmp}
+use Rattle.std.specs.Prelude.{◌≡◌, ◌⊎◌, ◌↔◌, ℕ, Bool, List, Option, None, Some, Contains, IsSome, IsTrue}
 use Rattle.m88_base.specs.Image.{ProgramImage, byte_at}
 use Rattle.m88_isa.specs.Address.{word_address}
 use Rattle.m88_sourcing.specs.Code.{IsCode}
 use Rattle.std.specs.FinSet.{contains}
-use Rattle.m88_sourcing.specs.Labels.{HasLabel, IsTarget}
+use Rattle.m88_sourcing.specs.Labels.{HasLabel}
+use Rattle.m88_sourcing.specs.Source.{AreFar}
+use Rattle.m88_sourcing.specs.declared.outline.Noted.{Noted}
+use Rattle.m88_sourcing.specs.declared.outline.Noted.TheVariants.{Before, Now}
 use Rattle.m88_sourcing.specs.declared.outline.Outline.{Outline}
 
 -- the words that are code, the addresses with a label, and the targets without a byte
 pub record OutlinesImage (image : ProgramImage) (entries : List ℕ) (o : Outline) : Type 0 where
   pub code : (a : ℕ) → IsTrue (contains o.code a) ↔ IsCode image entries a
   pub labels : (a : ℕ) → IsTrue (contains o.labels a) ↔ HasLabel image entries a
-  pub far : (t : ℕ) → IsTrue (has nat_cmp o.far t) ↔ (IsTarget image entries t × (byte_at image t ≡ None))
+  pub far : AreFar image entries o.far.items
 
 -- it is the outline of the image, with code that begins at some addresses besides the start
 abbrev pub IsOutlined : ProgramImage → Outline → Type 0
@@ -32,5 +33,15 @@ pub record Notes (image : ProgramImage) (Named : ℕ → Type 0) (old new : Outl
   pub code : new.code ≡ old.code
   pub labels : (a : ℕ) → IsTrue (contains new.labels a)
       ↔ (IsTrue (contains old.labels a) ⊎ (Named a × IsSome (byte_at image a)))
-  pub far : (a : ℕ) → IsTrue (has nat_cmp new.far a)
-      ↔ (IsTrue (has nat_cmp old.far a) ⊎ (Named a × (byte_at image a ≡ None)))
+  pub far : (a : ℕ) → Contains new.far.items a
+      ↔ (Contains old.far.items a ⊎ (Named a × (byte_at image a ≡ None)))
+
+-- a label is one that was there, or the one that is given
+abbrev pub AddsLabel : Outline → Outline → Option ℕ → Type 0
+AddsLabel old new label =
+    (a : ℕ) → IsTrue (contains new.labels a) → IsTrue (contains old.labels a) ⊎ (label ≡ Some a)
+
+-- the label that was noted with a word, where there is one
+abbrev pub noted_label : Noted → Option ℕ
+noted_label Before = None
+noted_label (Now label) = label

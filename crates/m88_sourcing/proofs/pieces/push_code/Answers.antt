@@ -4,8 +4,8 @@ use Rattle.std.proofs.lemmas.Bool.{cases_lt}
 use Rattle.m88_base.specs.Image.{ProgramImage, byte_at}
 use Rattle.m88_sourcing.specs.Code.{HasInstruction}
 use Rattle.m88_sourcing.proofs.Appending.{front_then}
-use Rattle.m88_sourcing.proofs.Cutting.{all_code, next_word, no_byte_within}
-use Rattle.m88_sourcing.proofs.OneInstruction.{dropped}
+use Rattle.m88_sourcing.proofs.Cutting.{all_code, next_word}
+use Rattle.m88_sourcing.proofs.OneInstruction.{dropped, no_byte_within}
 use Rattle.m88_sourcing.proofs.pieces.push_code.Goals as goal
 
 -- the bytes that stand there are those of all the words

@@ -24,6 +24,9 @@ loop-next-init c = record {
     leads = λ a b there led. absurd (true≢false (sym there ∙ c.in_ok-new.ensures.code a));
     slots = λ a b there is_slot. absurd (true≢false (sym there ∙ c.in_ok-new.ensures.code a));
     names = c.in_ok-new.ensures.named;
+    labels = λ a there.
+        let named = ((c.in_ok-new.ensures.named.labels a).0 there).0 in
+        absurd (true≢false (sym named.1 ∙ c.in_ok-new.ensures.code named.0));
   };
   seeds = λ a seed. seed;
   done = λ k b low there stands. absurd (omega (arith, low));

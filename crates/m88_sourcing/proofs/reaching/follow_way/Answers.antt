@@ -25,13 +25,14 @@ returns-in_default-clause-closed c =
     (λ b e. absurd (c.in_default.not-Some b e))
     c.loop.invariant.closed
 
-pub step-requires-in-loop : goal.step-requires-in-loop
-step-requires-in-loop c =
-    left_as c.args.image.now c.loop.walk (λ b. c.loop.next ≡ Some b) (λ b. b ≡ c.in-Some.at)
-    (λ b e. let same : Some b ≡ Some c.in-Some.at = sym e ∙ c.in-Some.is in cc) c.loop.invariant.closed
+pub step-requires-in-loop-clause-closed : goal.step-requires-in-loop-clause-closed
+step-requires-in-loop-clause-closed c =
+    left_as c.args.image.now c.loop.walk (λ b. c.loop.next ≡ Some b) (λ b. b ≡ c.in-Some.to)
+    (λ b e. let same : Some b ≡ Some c.in-Some.to = sym e ∙ c.in-Some.is in cc) c.loop.invariant.closed
 
 pub loop-preserved : goal.loop-preserved
 loop-preserved c = record {
+  rest = c.bytes_on-bytes.ensures;
   closed = c.in_ok-next-2.ensures.closed;
   sound = λ seeds sound reached.
       let before = c.loop.invariant.sound seeds sound reached in

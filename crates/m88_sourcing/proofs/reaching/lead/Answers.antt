@@ -1,14 +1,12 @@
 -- The instruction that stands there is the one that was given.
-use Rattle.std.proofs.Common.{◌≡◌, ◌∙◌, ap, inl, inr, sym, true≢false}
+use Rattle.std.proofs.Common.{◌≡◌, ◌∙◌, ap, inl, inr}
 use Rattle.m88_isa.specs.declared.instr.Instr.{Instr as Instruction}
-use Rattle.m88_sourcing.specs.Code.{IsExit}
 use Rattle.m88_sourcing.specs.Flow.{branch_target, goes_on_to}
 use Rattle.m88_sourcing.proofs.OneInstruction.{same_instruction}
-use Rattle.m88_sourcing.proofs.Walking.{with_one}
 use Rattle.m88_sourcing.proofs.reaching.lead.Goals as goal
 
 pub returns-then-is_exit-clause-has : goal.returns-then-is_exit-clause-has
-returns-then-is_exit-clause-has c = λ b led. absurd (led.2 (c.is_exit.ensures.0 c.if-is_exit.true))
+returns-then-is_exit-clause-has c = λ b led. absurd (led.2 (c.is_exit.ensures.exit.0 c.if-is_exit.true))
 
 pub returns-clause-has : goal.returns-clause-has
 returns-clause-has c = λ b led.
@@ -16,16 +14,5 @@ returns-clause-has c = λ b led.
     c.requires led.1 in
     elim led.3 [
       | inl h ↦ inr (c.goes_on_to.ensures ∙ ap (λ (k : Instruction). goes_on_to c.args.at k) same ∙ h)
-      | inr h ↦
-          inl ((with_one _ _ _ b c.in_ok-push_if.ensures).1
-          (inr (c.branch_target.ensures ∙ ap (λ (k : Instruction). branch_target c.args.at k) same ∙ h)))
-    ]
-
-pub returns-clause-only : goal.returns-clause-only
-returns-clause-only c = λ b there.
-    let goes_on : ¬ IsExit c.args.image.now c.args.at =
-    λ exit. true≢false (sym (c.is_exit.ensures.1 exit) ∙ c.if-is_exit.false) in
-    elim ((with_one _ _ _ b c.in_ok-push_if.ensures).0 there) [
-      | inl old ↦ inl old
-      | inr new ↦ inr (c.args.instr.now, c.requires, goes_on, inr (sym c.branch_target.ensures ∙ new))
+      | inr h ↦ inl (ap (λ (k : Instruction). branch_target c.args.at k) same ∙ h)
     ]

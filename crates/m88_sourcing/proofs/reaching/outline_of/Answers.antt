@@ -1,12 +1,13 @@
 -- The targets of the words of code, and the entries.
-use Rattle.std.proofs.Common.{◌⊎◌, ℕ, IsTrue, List, map, subst, take_all}
+use Rattle.std.proofs.Common.{eqb, ◌⊎◌, ℕ, IsTrue, List, map, subst, take_all}
 use Rattle.std.specs.Prelude.{◌↔◌, Contains, IsSome}
+use Rattle.std.proofs.lemmas.List.Filters.{dedup_is}
 use Rattle.m88_base.specs.Image.{byte_at}
 use Rattle.m88_isa.specs.Address.{word_address}
 use Rattle.m88_sourcing.specs.Inside.Walks.{IsNamedBy}
 use Rattle.std.specs.FinSet.{contains}
 use Rattle.m88_sourcing.specs.Labels.{IsTarget}
-use Rattle.m88_sourcing.proofs.Outlining.{entry_more, no_entry, with_target}
+use Rattle.m88_sourcing.proofs.Outlining.{entry_more, no_entry, sorted_targets, with_target}
 use Rattle.m88_sourcing.proofs.reaching.outline_of.Goals as goal
 
 pub loop-entry-init : goal.loop-entry-init
@@ -42,5 +43,7 @@ returns c =
           × (IsTarget image c.args.entries.now a ⊎ Contains (map word_address entries) a)))
           (take_all c.loop-entry.entry-index c.args.entries.now c.loop-entry-test.false)
           (c.loop-entry.invariant.labels a);
-      far = c.loop-entry.invariant.far;
+      far = sorted_targets image c.args.entries.now c.loop-entry.outline.far.items c.sort_unstable.new.self.items
+          c.dedup.new.self.items c.sort_unstable.ensures.permutation c.sort_unstable.ensures.sorted
+          (dedup_is eqb _ _ c.dedup.ensures.filtered) c.loop-entry.invariant.far;
     }

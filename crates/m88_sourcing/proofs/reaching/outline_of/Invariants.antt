@@ -1,8 +1,6 @@
 -- The entries so far were noted.
 use Rattle.std.proofs.Common.{◌≡◌, ◌⊎◌, ℕ, None, IsTrue, map, take}
 use Rattle.std.specs.Prelude.{◌↔◌, Contains, IsSome}
-use Rattle.std.specs.BTreeSet.{contains as has}
-use Rattle.std.specs.Ordering.{nat_cmp}
 use Rattle.m88_base.specs.Image.{byte_at}
 use Rattle.m88_isa.specs.Address.{word_address}
 use Rattle.m88_sourcing.specs.Code.{IsCode}
@@ -16,6 +14,6 @@ invariant-loop-entry l = record {
   labels : (a : ℕ) → IsTrue (contains l.outline.labels a)
       ↔ (IsSome (byte_at l.image a)
       × (IsTarget l.image l.entries a ⊎ Contains (map word_address (take l.entry-index l.entries)) a));
-  far : (a : ℕ) → IsTrue (has nat_cmp l.outline.far a)
+  far : (a : ℕ) → Contains l.outline.far.items a
       ↔ (IsTarget l.image l.entries a × (byte_at l.image a ≡ None));
 }

@@ -1,30 +1,27 @@
 -- One line more, and all.
-use Rattle.std.proofs.Common.{◌≡◌, ◌∙◌, ◌++◌, ◌∷◌, ℕ, List, [], ap, append-nil, map, sym}
-use Rattle.std.specs.Map.Iter.{deref}
-use Rattle.std.proofs.lemmas.Map.Iter.{rest_all, rest_more}
+use Rattle.std.proofs.Common.{◌≡◌, ◌∙◌, ◌+◌, ◌++◌, List, ℕ, ap, append-nil, map, subst, sym, take, take_all}
 use Rattle.m88_base.specs.Lines.{text_of_lines}
 use Rattle.m88_sourcing.specs.Source.{far_line}
-use Rattle.m88_sourcing.proofs.Appending.{line_before}
+use Rattle.m88_sourcing.proofs.Written.{far_more}
 use Rattle.m88_sourcing.proofs.source.push_all_far.Goals as goal
 
 pub loop-at-init : goal.loop-at-init
-loop-at-init c =
-    ap (λ (rest : List ℕ). c.args.text.now.items ++ text_of_lines (map far_line rest))
-    (c.into_iter-at-iterator.ensures.into_iter_gives ∙ c.iter-at-items.ensures.rest)
+loop-at-init c = sym (append-nil c.args.text.now.items)
 
 pub loop-at-preserved : goal.loop-at-preserved
 loop-at-preserved c =
-    let more : c.loop-at.at-iterator ≡ c.in-Some.at.now ∷ c.next.new.self =
-    rest_more deref c.loop-at.at-iterator c.next.new.self c.next.result c.in-Some.at c.in-Some.is c.next.ensures.steps in
-    line_before c.loop-at.text.items c.push_far.new.text.items (far_line c.in-Some.at.now) (map far_line c.next.new.self)
-    c.in_ok-push_far.ensures
-    ∙ ap (λ (rest : List ℕ). c.loop-at.text.items ++ text_of_lines (map far_line rest)) (sym more)
-    ∙ c.loop-at.invariant
+    let old : List ℕ = c.args.text.now.items in
+    let k : ℕ = c.loop-at.at-index in
+    subst (λ (xs : List ℕ). c.push_far.new.text.items ≡ old ++ text_of_lines (map far_line (take (k + 1) xs)))
+    c.deref-at-items.ensures.value
+    (far_more old c.loop-at.text.items c.push_far.new.text.items c.deref-at-items.result.now k c.loop-at-test.true
+    (subst (λ (xs : List ℕ). c.loop-at.text.items ≡ old ++ text_of_lines (map far_line (take k xs)))
+    (sym c.deref-at-items.ensures.value) c.loop-at.invariant)
+    c.in_ok-push_far.ensures)
 
-pub returns-clause-text : goal.returns-clause-text
-returns-clause-text c =
-    let none : c.loop-at.at-iterator ≡ [] =
-    rest_all deref c.loop-at.at-iterator c.next.new.self c.next.result c.in-None.is c.next.ensures.steps in
-    sym (append-nil c.loop-at.text.items)
-    ∙ ap (λ (rest : List ℕ). c.loop-at.text.items ++ text_of_lines (map far_line rest)) (sym none)
-    ∙ c.loop-at.invariant
+pub returns : goal.returns
+returns c =
+    c.loop-at.invariant
+    ∙ ap (λ (xs : List ℕ). c.args.text.now.items ++ text_of_lines (map far_line xs))
+    (subst (λ (xs : List ℕ). take c.loop-at.at-index xs ≡ xs) c.deref-at-items.ensures.value
+    (take_all c.loop-at.at-index c.deref-at-items.result.now c.loop-at-test.false))
