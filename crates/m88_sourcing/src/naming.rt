@@ -6,7 +6,7 @@ ghost use Rattle.m88_sourcing.specs.Flow.{branch_target};
 ghost use Rattle.m88_sourcing.specs.Labels.{code_text, label_of, named_text};
 
 use crate::flow::branch_target;
-use crate::lines::push_name;
+use crate::lines::push_named;
 use m88_disasm::{
     Condition, InstrText, alone, of_branch, of_branch_bit, of_branch_cond, push_line, text_of,
     with_two,
@@ -45,10 +45,7 @@ fn push_branch(text: &mut Vec<u8>, front: &[u8], between: u8, to: u32) -> Result
         (text.new.items ≡ text.old.items ++ ((front.now ++ between ∷ label_of to) ++ line_end)) }
 {
     text.extend_from_slice(front)?;
-    text.push(between)?;
-    push_name(text, to)?;
-    text.push(b'\n')?;
-    Ok(())
+    push_named(text, between, to)
 }
 
 /// Appends the line of an instruction at an address: of a branch its text with the name of its target.
