@@ -9,13 +9,13 @@ use Rattle.std.proofs.lemmas.List.Kept.{Contains-dedup_nat, Contains-from_dedup,
 use Rattle.std.proofs.lemmas.List.Sorted.{Contains-permutation, IsPermutation-sym}
 use Rattle.std.proofs.lemmas.List.{map-append, take_more}
 use Rattle.std.proofs.lemmas.List.Elements.{Contains-append_left, Contains-push, Contains-push_cases}
+use Rattle.std.specs.FinSet.{contains}
 use Rattle.m88_base.specs.Image.{ProgramImage, byte_at}
 use Rattle.m88_isa.specs.Address.{word_address}
 use Rattle.m88_sourcing.specs.Code.{HasInstruction, IsCode, IsReached, seeds_of}
 use Rattle.m88_sourcing.specs.Code.IsCode.{in_slot, reached}
 use Rattle.m88_sourcing.specs.Code.IsReached.{leads}
 use Rattle.m88_sourcing.specs.Inside.Walks.{HasSlot, IsWalkSound, MayLeadTo}
-use Rattle.std.specs.FinSet.{contains}
 use Rattle.m88_sourcing.specs.Labels.{IsTarget}
 use Rattle.m88_sourcing.specs.Source.{AreFar}
 use Rattle.m88_sourcing.specs.declared.reaching.Walk.{Walk}

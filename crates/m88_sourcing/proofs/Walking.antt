@@ -4,6 +4,7 @@ use Rattle.std.specs.Prelude.{◌↔◌, Contains, IfSome, IsSome, Option}
 use Rattle.std.proofs.lemmas.Option.{none-some, same_Some}
 use Rattle.std.specs.Option.{option_to_list}
 use Rattle.std.proofs.lemmas.List.Elements.{Contains-append_cases, Contains-append_left, Contains-push, Contains-push_cases}
+use Rattle.std.specs.FinSet.{contains}
 use Rattle.m88_base.specs.Image.{ProgramImage, byte_at}
 use Rattle.m88_isa.specs.declared.instr.Instr.{Instr}
 use Rattle.m88_sourcing.specs.Code.{HasInstruction, HoldsInstruction, IsReached, IsReachedFrom}
@@ -11,7 +12,6 @@ use Rattle.m88_sourcing.specs.Code.IsReached.{leads}
 use Rattle.m88_sourcing.specs.Flow.{branch_target, slot}
 use Rattle.m88_sourcing.specs.Inside.Members.{AddsLabel, Notes}
 use Rattle.m88_sourcing.specs.Inside.Walks.{HasSlot, IsClosed, IsNamedBy, IsReachedIfCode, IsWalkSound, Keeps, MayLeadTo, NamesTargets}
-use Rattle.std.specs.FinSet.{contains}
 use Rattle.m88_sourcing.specs.Labels.{BranchesTo}
 use Rattle.m88_sourcing.specs.declared.outline.Outline.{Outline}
 use Rattle.m88_sourcing.specs.declared.reaching.Walk.{Walk}

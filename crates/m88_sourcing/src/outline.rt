@@ -1,12 +1,12 @@
 //! What is known of an image before its source is written.
 ghost use Rattle.std.specs.Prelude.{◌≡◌, ◌⊎◌, ◌↔◌, ℕ, Some, false, IfOk, IsSome, IsTrue, OnOk};
+ghost use Rattle.std.specs.FinSet.{contains};
 ghost use Rattle.m88_base.specs.Image.{ProgramImage, byte_at};
 ghost use Rattle.m88_isa.specs.Address.{word_address};
 ghost use Rattle.m88_sourcing.specs.Code.{HoldsInstruction};
 ghost use Rattle.m88_sourcing.specs.Flow.{branch_target};
 ghost use Rattle.m88_sourcing.specs.Inside.Members.{AddsLabel, Notes, noted_label};
 ghost use Rattle.m88_sourcing.specs.Inside.Walks.{NamesTargets};
-ghost use Rattle.std.specs.FinSet.{contains};
 
 use crate::flow::branch_target;
 use crate::words::Words;

@@ -1,11 +1,11 @@
 //! The words that the flow of a program reaches.
 ghost use Rattle.std.specs.Prelude.{◌≡◌, ◌⊎◌, ◌↔◌, ◌++◌, ℕ, List, Some, Contains, IfOk, IfSome, OnOk, IsTrue};
 ghost use Rattle.std.specs.Option.{option_to_list};
+ghost use Rattle.std.specs.FinSet.{contains};
 ghost use Rattle.m88_sourcing.specs.Code.{HasInstruction, HoldsInstruction, IsCode, IsReached, seeds_of};
 ghost use Rattle.m88_sourcing.specs.Flow.{branch_target};
 ghost use Rattle.m88_sourcing.specs.Inside.Members.{OutlinesImage};
 ghost use Rattle.m88_sourcing.specs.Inside.Walks.{AreRest, HasSlot, IsClosed, IsReachedIfCode, IsWalkSound, Keeps, MayLeadTo, NamesTargets};
-ghost use Rattle.std.specs.FinSet.{contains};
 
 use crate::flow::{goes_on_to, slot};
 use crate::outline::{Noted, Outline, note_entry, note_word};

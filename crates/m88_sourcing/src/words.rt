@@ -11,8 +11,9 @@ use std::marker::Model;
 /// The most addresses for each byte of an image over which near rows reach.
 const MOST_REACH: usize = 16;
 
-/// A set of addresses. Each 32 of them that are 4 bytes apart, as those of words in turn are, share a row of bits. Rows
-/// where most addresses are expected are near: they stand in turn, from a first one on. Others are kept by their numbers.
+/// A set of addresses. Each 32 of them that are 4 bytes apart, as those of words in turn are, share a row of bits.
+/// Rows where most addresses are expected are near: they stand in turn, from a first one on. Others are kept by their
+/// numbers.
 #[derive(Drop)]
 pub(crate) struct Words {
     first: u32,
@@ -84,8 +85,8 @@ fn longest_part(image: &Image) -> (u32, usize)
     longest
 }
 
-/// The addresses from the first byte of an image to its last one, where few of them have no byte: the first of them, and
-/// how many they are. Else those of its longest part.
+/// The addresses from the first byte of an image to its last one, where few of them have no byte: the first of them,
+/// and how many they are. Else those of its longest part.
 fn near_addresses(image: &Image) -> (u32, usize)
     ensures { result.1 ≤ 2 ^ 32 }
 {

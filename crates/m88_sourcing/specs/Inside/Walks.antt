@@ -1,10 +1,10 @@
 -- What a walk through a program has found.
 use Rattle.std.specs.Prelude.{◌≡◌, ◌⊎◌, ◌↔◌, ℕ, ◌+◌, ◌<◌, List, ◌++◌, length, slice_get, None, Some, Contains, IsSome, IsTrue}
+use Rattle.std.specs.FinSet.{contains}
 use Rattle.m88_base.specs.Image.{ProgramImage, byte_at}
 use Rattle.m88_isa.specs.declared.instr.Instr.{Instr}
 use Rattle.m88_sourcing.specs.Code.{GoesTo, HasInstruction, HoldsInstruction, IsExit, IsReached, IsReachedFrom}
 use Rattle.m88_sourcing.specs.Flow.{slot}
-use Rattle.std.specs.FinSet.{contains}
 use Rattle.m88_sourcing.specs.Labels.{BranchesTo}
 use Rattle.m88_sourcing.specs.declared.outline.Outline.{Outline}
 use Rattle.m88_sourcing.specs.declared.reaching.Walk.{Walk}

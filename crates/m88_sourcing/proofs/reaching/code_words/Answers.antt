@@ -1,8 +1,8 @@
 -- What is reached, and the slots of that.
 use Rattle.std.proofs.Common.{◌⊎◌, ℕ, Contains, IsTrue, List, subst}
 use Rattle.std.specs.Prelude.{◌↔◌}
-use Rattle.m88_sourcing.specs.Code.{HasInstruction}
 use Rattle.std.specs.FinSet.{contains}
+use Rattle.m88_sourcing.specs.Code.{HasInstruction}
 use Rattle.m88_sourcing.proofs.Outlining.{all_code}
 use Rattle.m88_sourcing.proofs.reaching.code_words.Goals as goal
 

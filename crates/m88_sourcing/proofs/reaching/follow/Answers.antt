@@ -3,9 +3,9 @@ use Rattle.std.proofs.Common.{◌≡◌, ◌∙◌, ◌<◌, ℕ, List, Contains
 use Rattle.std.proofs.lemmas.Bool.{cases_lt}
 use Rattle.std.proofs.lemmas.List.Elements.{Contains-append_left}
 use Rattle.std.proofs.lemmas.Option.{slice_get-get_or}
+use Rattle.std.specs.FinSet.{contains}
 use Rattle.m88_sourcing.specs.Code.{HasInstruction}
 use Rattle.m88_sourcing.specs.Code.IsReached.{begins}
-use Rattle.std.specs.FinSet.{contains}
 use Rattle.m88_sourcing.proofs.Reached.{all_reached}
 use Rattle.m88_sourcing.proofs.Walking.{left_as, stands_still}
 use Rattle.m88_sourcing.proofs.reaching.follow.Goals as goal

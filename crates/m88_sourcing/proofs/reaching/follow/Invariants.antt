@@ -1,8 +1,8 @@
 -- The first `next` heads are found, and nothing is left but the others.
 use Rattle.std.proofs.Common.{◌≡◌, ◌-◌, ◌<◌, ◌^◌, ℕ, Contains, IsTrue, Some, slice_get}
+use Rattle.std.specs.FinSet.{contains}
 use Rattle.m88_sourcing.specs.Code.{HasInstruction}
 use Rattle.m88_sourcing.specs.Inside.Walks.{IsClosed, IsWalkSound}
-use Rattle.std.specs.FinSet.{contains}
 use Rattle.m88_sourcing.proofs.reaching.follow.Given as goal
 
 abbrev pub invariant-loop-next : goal.invariant-loop-next

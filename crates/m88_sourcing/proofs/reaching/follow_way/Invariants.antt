@@ -1,8 +1,8 @@
 -- What is left is where the way goes on.
 use Rattle.std.proofs.Common.{◌≡◌, ℕ, List, Some, IfSome, IsTrue}
+use Rattle.std.specs.FinSet.{contains}
 use Rattle.m88_sourcing.specs.Code.{HasInstruction}
 use Rattle.m88_sourcing.specs.Inside.Walks.{AreRest, IsClosed, IsReachedIfCode, IsWalkSound, Keeps}
-use Rattle.std.specs.FinSet.{contains}
 use Rattle.m88_sourcing.proofs.reaching.follow_way.Given as goal
 
 abbrev pub invariant-loop : goal.invariant-loop

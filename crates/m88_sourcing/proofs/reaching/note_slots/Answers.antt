@@ -1,8 +1,8 @@
 -- One slot more, and all.
 use Rattle.std.proofs.Common.{◌⊎◌, List, ℕ, Contains, IsTrue, subst, take_all}
 use Rattle.std.specs.Prelude.{◌↔◌}
-use Rattle.m88_sourcing.specs.Code.{HasInstruction}
 use Rattle.std.specs.FinSet.{contains}
+use Rattle.m88_sourcing.specs.Code.{HasInstruction}
 use Rattle.m88_sourcing.proofs.Outlining.{slot_more}
 use Rattle.m88_sourcing.proofs.reaching.note_slots.Goals as goal
 

@@ -1,9 +1,9 @@
 -- The words of the slots so far were noted.
 use Rattle.std.proofs.Common.{◌⊎◌, ℕ, Contains, IsTrue, take}
 use Rattle.std.specs.Prelude.{◌↔◌}
+use Rattle.std.specs.FinSet.{contains}
 use Rattle.m88_sourcing.specs.Code.{HasInstruction}
 use Rattle.m88_sourcing.specs.Inside.Walks.{NamesTargets}
-use Rattle.std.specs.FinSet.{contains}
 use Rattle.m88_sourcing.proofs.reaching.note_slots.Given as goal
 
 abbrev pub invariant-loop-slot : goal.invariant-loop-slot

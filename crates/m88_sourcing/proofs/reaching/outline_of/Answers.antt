@@ -2,10 +2,10 @@
 use Rattle.std.proofs.Common.{eqb, ◌⊎◌, ℕ, IsTrue, List, map, subst, take_all}
 use Rattle.std.specs.Prelude.{◌↔◌, Contains, IsSome}
 use Rattle.std.proofs.lemmas.List.Filters.{dedup_is}
+use Rattle.std.specs.FinSet.{contains}
 use Rattle.m88_base.specs.Image.{byte_at}
 use Rattle.m88_isa.specs.Address.{word_address}
 use Rattle.m88_sourcing.specs.Inside.Walks.{IsNamedBy}
-use Rattle.std.specs.FinSet.{contains}
 use Rattle.m88_sourcing.specs.Labels.{IsTarget}
 use Rattle.m88_sourcing.proofs.Outlining.{entry_more, no_entry, sorted_targets, with_target}
 use Rattle.m88_sourcing.proofs.reaching.outline_of.Goals as goal

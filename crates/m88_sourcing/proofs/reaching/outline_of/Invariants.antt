@@ -1,10 +1,10 @@
 -- The entries so far were noted.
 use Rattle.std.proofs.Common.{◌≡◌, ◌⊎◌, ℕ, None, IsTrue, map, take}
 use Rattle.std.specs.Prelude.{◌↔◌, Contains, IsSome}
+use Rattle.std.specs.FinSet.{contains}
 use Rattle.m88_base.specs.Image.{byte_at}
 use Rattle.m88_isa.specs.Address.{word_address}
 use Rattle.m88_sourcing.specs.Code.{IsCode}
-use Rattle.std.specs.FinSet.{contains}
 use Rattle.m88_sourcing.specs.Labels.{IsTarget}
 use Rattle.m88_sourcing.proofs.reaching.outline_of.Given as goal
 
