@@ -17,7 +17,7 @@ use m88_codec::word_at;
 use m88_disasm::push_start;
 use std::alloc::AllocError;
 
-/// The eight digits of an address, which its name has too.
+/// The eight digits of an address, as in its name.
 fn digits_of(at: u32) -> [u8; 8]
     ensures { result ≡ hex8 at }
 {

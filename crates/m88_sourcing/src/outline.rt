@@ -19,6 +19,7 @@ use std::alloc::{AllocError, Global};
 pub(crate) struct Outline {
     pub code: Words,
     pub labels: Words,
+    /// One for each branch to it, until `outline_of` sorts them and drops repeats.
     pub far: Vec<u32>,
 }
 
@@ -26,7 +27,7 @@ impl Outline {
     /// Where nothing is known of an image.
     pub fn new(alloc: Global, image: &Image) -> Result<Outline, AllocError>
         ensures code { IfOk result (λ o. (a : ℕ) → contains o.code a ≡ false) }
-        ensures named { IfOk result (NamesTargets image.now) }
+        ensures named { IfOk result (λ o. (any : ProgramImage) → NamesTargets any o) }
     {
         Ok(Outline {
             code: Words::new(alloc, image)?,
@@ -41,11 +42,11 @@ impl Outline {
 pub(crate) enum Noted {
     /// It was noted before.
     Before,
-    /// It is noted now, and so is this label, where its branch is the first to name one.
+    /// It is noted now, and so is this label of its target, where that is new.
     Now(Option<u32>),
 }
 
-/// Notes an address that a branch names, and answers it where it is a label now and wasn't before.
+/// Notes an address that a branch names, and answers it where it has a byte, and so is a label.
 fn note_target(outline: &mut Outline, image: &Image, at: u32) -> Result<Option<u32>, AllocError>
     ensures notes { OnOk result (Notes image.now (λ a. a ≡ at) outline.old outline.new) }
     ensures label { IfOk result (λ label. (a : ℕ) → label ≡ Some a → a ≡ at) }
@@ -55,11 +56,8 @@ fn note_target(outline: &mut Outline, image: &Image, at: u32) -> Result<Option<u
         outline.far.push(at)?;
         return Ok(None);
     }
-    if outline.labels.insert(at)? {
-        Ok(Some(at))
-    } else {
-        Ok(None)
-    }
+    outline.labels.insert(at)?;
+    Ok(Some(at))
 }
 
 /// Notes a word that is code, and the target of the instruction there.

@@ -56,7 +56,7 @@ fn push_other(
     push_if(addresses, at)
 }
 
-/// Where the program goes on behind an instruction at an address, which may end it.
+/// Where the program goes on behind an instruction at an address, none where it doesn't.
 fn lead(image: &Image, at: u32, instr: &Instr) -> Option<u32>
     requires { HoldsInstruction image.now at instr.now }
     ensures has { (b : ℕ) → MayLeadTo image.now at b
@@ -71,7 +71,7 @@ fn lead(image: &Image, at: u32, instr: &Instr) -> Option<u32>
 }
 
 /// Notes the word at an address with its slot and its target, where an instruction stands there that wasn't noted yet.
-/// Answers where the program goes on.
+/// The bytes are those of the image from there on. Answers where the program goes on.
 fn step(walk: &mut Walk, image: &Image, at: u32, bytes: &[u8]) -> Result<Option<u32>, AllocError>
     requires closed { IsClosed image.now walk.old (λ b. b ≡ at) }
     requires rest { AreRest image.now at bytes.now }

@@ -43,7 +43,7 @@ pub(crate) fn standing(image: &Image, at: u32) -> Option<Instr>
     standing_in(at, image.rest(at))
 }
 
-/// The bytes of an image from an address on, where those from another on are known.
+/// The bytes of an image from the address `to` on, where those from `at` on are known.
 pub(crate) fn bytes_on<'a>(image: &'a Image, at: u32, bytes: &'a [u8], to: u32) -> &'a [u8]
     requires { AreRest image.now at bytes.now }
     ensures { AreRest image.now to result.now }

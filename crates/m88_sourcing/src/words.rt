@@ -8,7 +8,7 @@ use m88_base::Image;
 use std::alloc::{AllocError, Global};
 use std::marker::Model;
 
-/// The most addresses for each byte of an image over which near rows reach.
+/// The most addresses, for each byte of an image, over which near rows reach.
 const MOST_REACH: usize = 16;
 
 /// A set of addresses. Each 32 of them that are 4 bytes apart, as those of words in turn are, share a row of bits.
@@ -85,8 +85,8 @@ fn longest_part(image: &Image) -> (u32, usize)
     longest
 }
 
-/// The addresses from the first byte of an image to its last one, where few of them have no byte: the first of them,
-/// and how many they are. Else those of its longest part.
+/// The addresses from the first byte of an image to its last one, where there are at most `MOST_REACH` of them for each
+/// byte: the first of them, and how many they are. Else those of its longest part.
 fn near_addresses(image: &Image) -> (u32, usize)
     ensures { result.1 ≤ 2 ^ 32 }
 {
@@ -105,13 +105,13 @@ fn near_addresses(image: &Image) -> (u32, usize)
 }
 
 impl Words {
-    /// No address, with near rows for those of an image.
+    /// No address, with near rows for the words of an image.
     pub fn new(alloc: Global, image: &Image) -> Result<Words, AllocError>
         ensures { IfOk result (λ words. (a : ℕ) → contains words a ≡ false) }
     {
         let (at, count) = near_addresses(image);
         Ok(Words {
-            first: row_of(at),
+            first: at / 128,
             near: vec![in alloc; 0; count / 128 + 2]?,
             others: IndexMap::new(alloc),
         })

@@ -41,8 +41,8 @@ pub record IsWalkSound (image : ProgramImage) (seeds : List ℕ) (w : Walk) : Ty
   pub heads : (a : ℕ) → Contains w.heads.items a → IsReachedIfCode image seeds a
   pub slots : (b : ℕ) → Contains w.slots.items b → (a : ℕ) × IsReached image seeds a × HasSlot image a b
 
--- of each word of code that it has found it has those to which the word leads, but for heads of further ways and for
--- addresses that are left; and each label is such a head
+-- a word of code that it has found leads to words that it has found, to heads of ways, or to addresses that are left;
+-- and each label is a head
 pub record IsClosed (image : ProgramImage) (w : Walk) (Left : ℕ → Type 0) : Type 0 where
   pub leads : (a b : ℕ) → IsTrue (contains w.outline.code a) → IsReachedFrom image a b
       → IsTrue (contains w.outline.code b) ⊎ (Contains w.heads.items b ⊎ Left b)

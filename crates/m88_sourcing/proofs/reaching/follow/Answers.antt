@@ -23,9 +23,9 @@ loop-next-init c = record {
   closed = record {
     leads = λ a b there led. absurd (true≢false (sym there ∙ c.in_ok-new.ensures.code a));
     slots = λ a b there is_slot. absurd (true≢false (sym there ∙ c.in_ok-new.ensures.code a));
-    names = c.in_ok-new.ensures.named;
+    names = c.in_ok-new.ensures.named c.args.image.now;
     labels = λ a there.
-        let named = ((c.in_ok-new.ensures.named.labels a).0 there).0 in
+        let named = (((c.in_ok-new.ensures.named c.args.image.now).labels a).0 there).0 in
         absurd (true≢false (sym named.1 ∙ c.in_ok-new.ensures.code named.0));
   };
   seeds = λ a seed. seed;
