@@ -5,8 +5,8 @@ pub use Rattle.m88_asm.proofs.OneUnit.{one_verdict as one_unit_verdict}
 -- Images: the sections of modules have at each address what their statements give, and a byte that one gives is found.
 unfoldable pub use Rattle.m88_asm.proofs.Imaging.{Has}
 pub use Rattle.m88_asm.proofs.Imaging.{has_left, has_right, run_found, runs_law}
--- The layout of a unit and that of its objects have the same extents.
-pub use Rattle.m88_asm.proofs.Composing.{extents_law}
+-- The layout of a unit and that of its objects have the same extents, globals and spots.
+pub use Rattle.m88_asm.proofs.Composing.{extents_law, globals_law, spots_law}
 -- the objects stand where their modules do, and so do the sections of each
 pub use Rattle.m88_asm.proofs.Composing.{all_stood, placement, same_base}
 -- Objects of a unit: they are sound, and their text is that of no others.
@@ -16,13 +16,13 @@ pub use Rattle.m88_asm.proofs.Layouts.{one_text}
 pub use Rattle.m88_asm.proofs.Composing.{CanFill, EachBased, formed}
 pub use Rattle.m88_asm.proofs.Reaching.{each_fills}
 -- a statement has as many bytes filled in as are counted
-pub use Rattle.m88_asm.proofs.Relocating.{AllFormed, length-filled_bytes}
+pub use Rattle.m88_asm.proofs.Relocating.{AllFormed, AreInReach, length-filled_bytes}
 -- statements without a fault: the first has none and the others have none
 pub use Rattle.m88_asm.proofs.Sounding.{first_parts}
 -- as of any two options neither is there, where their first is none
 pub use Rattle.m88_asm.proofs.Assembling.{none_of_both}
 -- Sources: one is accepted for assembling, or for linking too, or has one refusal, behind other lines of an input too.
-pub use Rattle.m88_asm.proofs.SourceVerdicts.{not_linked, one_assembly_verdict, one_program_verdict, program_or_refusal, same_program_refusal, told_once}
+pub use Rattle.m88_asm.proofs.SourceVerdicts.{not_linked, one_assembly_verdict, one_program_verdict, program_or_refusal, same_program_refusal}
 -- one that is accepted has one program in each mode, as bytes have one instruction at an address, or none
 pub use Rattle.m88_asm.proofs.UnitPrograms.{HasProgram, one_at, one_source_program, same_program, source_program}
 -- it has one image, and the program that an image holds which holds its unit

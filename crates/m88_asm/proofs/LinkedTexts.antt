@@ -4,7 +4,7 @@ use Rattle.std.proofs.Common.{◌≡◌, ◌<◌, ◌^◌, ℕ, List, inl, inr, 
 use Rattle.std.specs.Prelude.{◌⊎◌, ◌↔◌}
 use Rattle.std.proofs.lemmas.List.Elements.{All-from_recursion}
 use Rattle.m88_base.specs.Image.{ProgramImage}
-use Rattle.m88_base.proofs.Laws.{same_images}
+use Rattle.m88_base.proofs.Laws.{same_images, told_once}
 use Rattle.m88_base.specs.OneVerdict.{HasOneFaultUnless}
 use Rattle.m88_base.specs.Refusal.{Refusal}
 use Rattle.m88_link.proofs.Laws.{not_both, one_layout_verdict, one_refusal, one_text_verdict}
@@ -31,7 +31,7 @@ use Rattle.m88_asm.proofs.Instructions.{bytes_law}
 use Rattle.m88_asm.proofs.Layouts.{linkable_too, linked_too, one_text, refused_first, refused_too}
 use Rattle.m88_asm.proofs.ObjectTexts.{objects_have_text}
 use Rattle.m88_asm.proofs.Reaching.{linkable_law, linked_law}
-use Rattle.m88_asm.proofs.SourceVerdicts.{not_assembled, told_once}
+use Rattle.m88_asm.proofs.SourceVerdicts.{not_assembled}
 use Rattle.m88_asm.proofs.UnitSound.{modules_sound}
 
 -- a text is that of one list of sound objects

@@ -5,14 +5,14 @@ use Rattle.std.specs.List.{All}
 use Rattle.std.proofs.lemmas.List.{append-nil}
 use Rattle.std.proofs.lemmas.List.Elements.{All-head, All-nil, All-push, All-tail}
 use Rattle.std.proofs.lemmas.Option.{slice_get_cases, slice_get_within}
-use Rattle.m88_base.proofs.Laws.{one_parting, parted_not_unparted, parted_told}
+use Rattle.m88_base.proofs.Laws.{one_parting, parted_not_unparted, parted_told, told_once}
 use Rattle.m88_base.specs.Lines.{lines_of}
 use Rattle.m88_base.specs.OneVerdict.{HasOneFaultUnless}
 use Rattle.m88_base.specs.Parted.{IsParted, LacksLine}
 use Rattle.m88_base.specs.Refusal.{Refusal}
 use Rattle.m88_asm.specs.Sources.{IsRefusedProgram}
 use Rattle.m88_asm.specs.Several.{AreSources, AreSourcesBehind, HasPrograms, HasRefusedSource, HasTooMany, IsPlacedProgram, LacksPrograms, PlacedSource, program_line, sources_refusal}
-use Rattle.m88_asm.proofs.SourceVerdicts.{not_linked, program_or_refusal, same_program_refusal, told_once}
+use Rattle.m88_asm.proofs.SourceVerdicts.{not_linked, program_or_refusal, same_program_refusal}
 
 -- sources that agree are one
 same_source : (a b : PlacedSource) → a.lines ≡ b.lines → a.source ≡ b.source → a ≡ b

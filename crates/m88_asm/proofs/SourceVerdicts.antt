@@ -2,6 +2,7 @@
 -- is accepted or has one refusal, behind other lines of an input too.
 use Rattle.std.proofs.Common.{◌≡◌, List, ℕ, Option, None, Some, ap, inl, inr, refl, sym, subst, ◌∙◌}
 use Rattle.std.specs.Prelude.{◌⊎◌}
+use Rattle.m88_base.proofs.Laws.{told_once}
 use Rattle.m88_base.specs.OneVerdict.{HasOneFaultUnless}
 use Rattle.m88_base.specs.Refusal.{Refusal}
 use Rattle.m88_parse.proofs.Laws.{one_source_verdict}
@@ -100,21 +101,7 @@ program_or_refusal n source = elim (one_source_verdict source).some [
     by_fault u is_unit (unit_kind.Link fault) (assembled, refused) =
         (_, inr (record { unit = u; is_unit = is_unit; is_assembled = assembled; fault = fault; is_refused = refused; refusal = refl }))
 
--- what is accepted or refused, never both, and refused for one reason, has one verdict
-pub told_once : {Accepted : Type 0} (IsReason : Refusal → Type 0) → Accepted ⊎ ((r : Refusal) × IsReason r)
-    → ((r : Refusal) → Accepted → IsReason r → ⊥) → ((r s : Refusal) → IsReason r → IsReason s → r ≡ s)
-    → HasOneFaultUnless Accepted IsReason
-told_once IsReason either not_both one = record {
-  some = elim either [
-    | inl accepted ↦ inl (tt, accepted)
-    | inr refused ↦ inr refused
-  ];
-  not_both = λ value r accepted refused. not_both r accepted refused;
-  one_value = λ a b h k. refl;
-  one_fault = one;
-}
-
--- so has a source
+-- a source has one verdict
 pub one_assembly_verdict : (n : ℕ) (source : List ℕ) → HasOneFaultUnless (IsAssemblySource source) (IsRefusedSource n source)
 one_assembly_verdict n source = told_once (IsRefusedSource n source) (assembly_or_refusal n source) (not_assembled n source) (same_refusal n source)
 

@@ -14,6 +14,8 @@ pub use Rattle.m88_base.proofs.Apart.{none_below}
 pub use Rattle.m88_base.proofs.Lookup.{byte_in_above, byte_in_at, byte_in_below, byte_in_from}
 -- the byte that two runs have where one begins at the end of the other, or that joined lists of runs have
 pub use Rattle.m88_base.proofs.Lookup.{byte_among-append, byte_in-join}
+-- each of runs that stand apart is a part of what is found in them
+pub use Rattle.m88_base.proofs.Cuts.{run_is_part}
 -- Elements of lists: one of joined lists stands in the first or in the second.
 pub use Rattle.m88_base.proofs.Lookup.{slice_get-append_left, slice_get-append_right}
 -- Options: three in a row are the same however they are grouped, and an option or none is the option.
@@ -37,15 +39,16 @@ pub use Rattle.m88_base.proofs.Splitting.{is_other, lacks-append, lacks_by, othe
 pub use Rattle.m88_base.proofs.Digits.{are_digits, decimal_found, decimal_needed, decimal_told, tells}
 -- eight hexadecimal digits that are written are read again, and those that are read were written
 pub use Rattle.m88_base.proofs.Hexadecimal.{hex8-hex8_of, hex8_of-hex8, is_hex8-hex8, value_of_hex8}
+-- Verdicts: what is accepted or refused, never both, and refused for one reason, has one.
+pub use Rattle.m88_base.proofs.OnceTold.{told_once}
 -- Statements that hold or fail: an order of numbers, the sameness of texts, and two together.
 pub use Rattle.m88_base.proofs.Decided.{IsDecided, at_most, both_decided, same_text}
--- Sources and sinks: one more call adds one to the count of calls.
-pub use Rattle.m88_base.proofs.Calls.{calls_more}
+-- Sources and sinks: where no call is made the count of calls stays, and one more call adds one to it.
+pub use Rattle.m88_base.proofs.Calls.{calls_more, calls_none}
 -- what two reads take together, and that the front of a buffer is as long as what was read into it
 pub use Rattle.m88_base.proofs.Known.{consumes_front, consumes_more, length_front, takes_at_most, takes_exactly}
--- Sinks and sources: a text stands whole behind what a sink held only where it was written whole, and a source that has
--- nothing left gave all that it had.
-pub use Rattle.m88_base.proofs.Wholly.{not_part, not_whole, same_input}
+-- a text stands whole behind what a sink held only where it was written whole
+pub use Rattle.m88_base.proofs.Wholly.{not_part, not_whole}
 -- a program that has no text wrote nothing, and one that wrote ended in one of three ways
 pub use Rattle.m88_base.proofs.Wholly.{answered, none_of_reading, only_refused}
 -- Filters: what one answers that wrote nothing, what one whose reply was written, and that an input of it is answered.

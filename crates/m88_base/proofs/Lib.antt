@@ -21,6 +21,7 @@ pub mod Lasts
 pub mod Lines
 pub mod Lookup
 pub mod Marks
+pub mod OnceTold
 pub mod PartedLines
 pub mod Placing
 pub mod RegisterBits

@@ -1,8 +1,6 @@
--- Where a text stands whole behind what a sink held, it was written whole; a source that has nothing left gave all; and
--- how a program ends that wrote.
-use Rattle.std.proofs.Common.{◌≡◌, ℕ, ◌<◌, ◌+◌, List, [], Option, Some, None, inl, inr, length, length-append, take, ap, refl, sym, ◌∙◌, subst, arith}
-use Rattle.std.specs.Io.KnownBytes.{Consumes}
-use Rattle.std.proofs.lemmas.List.{append-nil, length-take-le}
+-- Where a text stands whole behind what a sink held, it was written whole; and how a program ends that wrote.
+use Rattle.std.proofs.Common.{◌≡◌, ℕ, ◌<◌, ◌+◌, List, Option, Some, None, inl, inr, length, length-append, take, ap, refl, ◌∙◌, arith}
+use Rattle.std.proofs.lemmas.List.{length-take-le}
 use Rattle.m88_base.specs.Outside.{AppendsPart, IsWhole}
 use Rattle.m88_base.specs.Status.{Answers, IsOfReading, WritesNothing}
 use Rattle.m88_base.specs.declared.status.Status.{Status}
@@ -24,13 +22,6 @@ not_part (Some old) (Some new) text part whole =
     let shorter : length new ≡ length old + length (take part.0 text) = ap length part.2 ∙ length-append old (take part.0 text) in
     let longer : length new ≡ length old + length text = ap length whole ∙ length-append old text in
     absurd (omega (arith, part.1))
-
--- a source that had an input, and has nothing left, gave that input
-pub same_input : (old new : Option (List ℕ)) (input given : List ℕ) → old ≡ Some input → new ≡ Some [] → Consumes old new given → given ≡ input
-same_input old new input given had left consumes =
-    let all : Consumes (Some input) (Some []) given =
-    subst (λ o. Consumes o (Some []) given) had (subst (λ o. Consumes old o given) left consumes) in
-    sym (append-nil given) ∙ sym all
 
 -- where there is no text, nothing was written
 pub none_of_reading : (status : Status) → IsOfReading status → WritesNothing status

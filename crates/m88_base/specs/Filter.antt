@@ -1,14 +1,19 @@
 -- What a filter does, a program between a source and a sink. Of a source or a sink that doesn't tell its bytes or its
 -- calls, nothing is said of these.
-use Rattle.std.specs.Prelude.{ℕ, ◌≡◌, ◌≢◌, ◌⊎◌, ◌+◌, ◌≤◌, List, Option, Some, length}
+use Rattle.std.specs.Prelude.{ℕ, ◌≡◌, ◌≢◌, ◌↔◌, ◌⊎◌, ◌+◌, ◌≤◌, List, Option, Some, length}
 use Rattle.std.specs.Io.KnownBytes.{Appends}
 use Rattle.m88_base.specs.Calls.{CallsWithin}
 use Rattle.m88_base.specs.Causes.{Rose}
 use Rattle.m88_base.specs.Outside.{AppendsPart, GivesAll, IsWhole, TakesAtMost, TakesExactly}
 use Rattle.m88_base.specs.Reading.{most_input}
-use Rattle.m88_base.specs.Status.{IsAnswered, WritesNothing}
+use Rattle.m88_base.specs.Status.{Answers, IsAnswered, WritesNothing}
 use Rattle.m88_base.specs.declared.status.Status.{Status}
-use Rattle.m88_base.specs.declared.status.Status.TheVariants.{Done, Refused, SinkFault, SourceFault, TooLong}
+use Rattle.m88_base.specs.declared.status.Status.TheVariants.{Done, Refused, SinkFault, SourceFault, TooLong, Usage}
+
+-- what it does with its words: those that it doesn't take, and no others, are answered Usage, and then nothing is read
+pub record UsageFor {S : Type 0} (Untaken : Type 0) (old new : S) (status : Status) : Type 0 where
+  pub usage : (status ≡ Usage) ↔ Untaken
+  pub unread : Untaken → new ≡ old
 
 -- what it does to its source, where it ends with this status
 pub record ReadsFor {S : Type 0} (left : S → Option (List ℕ)) (calls : S → Option ℕ) (faults : S → ℕ) (old new : S)
@@ -73,3 +78,11 @@ pub record AnswersFor {S K : Type 0} (left : S → Option (List ℕ)) (held : K 
   pub part : status ≡ SinkFault
       → AnswersInput (left source) (left source_after) (λ input text. AcceptedWith input text ⊎ RefusedWith input text)
       (WritesPart held calls sink sink_after)
+
+-- what it answers to an input where neither its source nor its sink failed: Done if that is accepted, Refused if it is
+-- not, or Memory
+abbrev pub AnswersUnfailed : {S K : Type 0} → (S → ℕ) → (K → ℕ) → S → S → K → K → (List ℕ → Type 0) → (List ℕ → Type 0)
+    → Status → Type 0
+AnswersUnfailed source_faults sink_faults source source_after sink sink_after IsInput IsAccepted status =
+    (input : List ℕ) → IsInput input → ¬ Rose (source_faults source) (source_faults source_after)
+    → ¬ Rose (sink_faults sink) (sink_faults sink_after) → Answers (IsAccepted input) status

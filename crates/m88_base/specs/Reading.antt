@@ -8,9 +8,9 @@ use Rattle.m88_base.specs.Outside.{TakesAtMost, TakesExactly}
 abbrev pub most_input : ℕ
 most_input = 2 ^ 20
 
--- a source is read, which may tell its bytes left, its calls and its faults: there were no more calls than an input may
--- take; where a value comes of it there was no fault; the one error says that there was; the other that the input is too
--- long, and then one byte more was taken than it may have, and else no more than that
+-- a source is read, which may tell its bytes left, its calls and its faults: there were at most two calls more than an
+-- input may have bytes; where a value comes of it there was no fault; the one error says that there was; the other that
+-- the input is too long, and then one byte more was taken than it may have, and else at most as many as it may have
 pub record ReadsSource {S T E : Type 0} (failed long : E) (left : S → Option (List ℕ)) (calls : S → Option ℕ)
     (faults : S → ℕ) (old new : S) (result : Result T E) : Type 0 where
   pub within : CallsWithin (most_input + 2) (calls old) (calls new)

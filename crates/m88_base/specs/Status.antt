@@ -30,8 +30,7 @@ IsAnswered _ = ⊥
 
 -- the answer where nothing failed: memory ran out, or Done where the input is accepted and Refused where it isn't
 abbrev pub Answers : Type 0 → Status → Type 0
-Answers Accepted status =
-    (status ≡ Memory) ⊎ ((Accepted × (status ≡ Done)) ⊎ (¬ Accepted × (status ≡ Refused)))
+Answers Accepted status = (status ≡ Memory) ⊎ ((Accepted × (status ≡ Done)) ⊎ (¬ Accepted × (status ≡ Refused)))
 
 -- the answer where an input was not read to its end
 abbrev pub status_of_end : ReadEnd → Status

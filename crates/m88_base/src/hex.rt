@@ -20,28 +20,34 @@ pub fn hex_digit(d: u32) -> u8
     }
 }
 
-/// A word in eight digits.
-fn word_digits(n: u32) -> [u8; 8]
-    ensures { result ≡ hex8 n }
-{
-    [
-        hex_digit(n >> 28),
-        hex_digit(n >> 24 & 15),
-        hex_digit(n >> 20 & 15),
-        hex_digit(n >> 16 & 15),
-        hex_digit(n >> 12 & 15),
-        hex_digit(n >> 8 & 15),
-        hex_digit(n >> 4 & 15),
-        hex_digit(n & 15),
-    ]
-}
+/// The two digits of each byte, from 0 on.
+const PAIRS: [u8; 512] = *b"000102030405060708090A0B0C0D0E0F101112131415161718191A1B1C1D1E1F\
+    202122232425262728292A2B2C2D2E2F303132333435363738393A3B3C3D3E3F\
+    404142434445464748494A4B4C4D4E4F505152535455565758595A5B5C5D5E5F\
+    606162636465666768696A6B6C6D6E6F707172737475767778797A7B7C7D7E7F\
+    808182838485868788898A8B8C8D8E8F909192939495969798999A9B9C9D9E9F\
+    A0A1A2A3A4A5A6A7A8A9AAABACADAEAFB0B1B2B3B4B5B6B7B8B9BABBBCBDBEBF\
+    C0C1C2C3C4C5C6C7C8C9CACBCCCDCECFD0D1D2D3D4D5D6D7D8D9DADBDCDDDEDF\
+    E0E1E2E3E4E5E6E7E8E9EAEBECEDEEEFF0F1F2F3F4F5F6F7F8F9FAFBFCFDFEFF";
 
-/// A byte in two digits.
+/// The two digits of a byte.
 fn byte_digits(n: u8) -> [u8; 2]
     ensures { result ≡ hex2 n }
 {
-    let n = u32::from(n);
-    [hex_digit(n >> 4), hex_digit(n & 15)]
+    let from = usize::from(n) * 2;
+    [PAIRS[from], PAIRS[from + 1]]
+}
+
+/// A word in eight digits.
+pub fn word_digits(n: u32) -> [u8; 8]
+    ensures { result ≡ hex8 n }
+{
+    let [first, second, third, fourth] = n.to_be_bytes();
+    let [a, b] = byte_digits(first);
+    let [c, d] = byte_digits(second);
+    let [e, f] = byte_digits(third);
+    let [g, h] = byte_digits(fourth);
+    [a, b, c, d, e, f, g, h]
 }
 
 /// Appends a word in eight digits.

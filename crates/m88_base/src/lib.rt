@@ -10,6 +10,7 @@ mod triple;
 
 // Where bytes come from and go to, and how a program ends that reads and writes them.
 mod failing;
+mod input;
 mod mem_sink;
 mod mem_source;
 mod pieces;
@@ -45,8 +46,9 @@ pub use cut::split_at_byte;
 pub use digit::digit_value;
 pub use failing::{Failed, NoMemory};
 pub use fixup::{Fixup, Kind};
-pub use hex::{Hex2, Hex8, hex_digit, hex8_of, push_hex2, push_hex8};
+pub use hex::{Hex2, Hex8, hex_digit, hex8_of, push_hex2, push_hex8, word_digits};
 pub use image::{FIRST_TEXT, Image, ImageFault, MOST_BYTES};
+pub use input::read_then;
 pub use line::first_line;
 pub use listed::Listed;
 pub use mem_sink::MemSink;

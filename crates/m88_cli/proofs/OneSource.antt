@@ -1,15 +1,15 @@
 -- An input is accepted by a command or has one refusal, never both.
 use Rattle.std.proofs.Common.{ℕ, List, ap, inl, inr, refl, sym, ◌∙◌, ◌≡◌, subst}
 use Rattle.std.specs.Prelude.{◌⊎◌}
-use Rattle.m88_asm.proofs.Laws.{one_assembly_verdict, one_linking_verdict, one_program_verdict, one_several_verdict, program_or_refusal, told_once, not_linked, same_program_refusal}
+use Rattle.m88_asm.proofs.Laws.{one_assembly_verdict, one_linking_verdict, one_program_verdict, one_several_verdict, program_or_refusal, not_linked, same_program_refusal}
 use Rattle.m88_asm.specs.Sources.{IsProgramSource, IsRefusedProgram}
+use Rattle.m88_base.proofs.Laws.{told_once}
 use Rattle.m88_base.specs.OneVerdict.{HasOneFaultUnless}
 use Rattle.m88_base.specs.Refusal.{Refusal}
-use Rattle.m88_srec.proofs.Laws.{one_record_verdict}
+use Rattle.m88_srec.proofs.Laws.{one_records_refusal}
 use Rattle.m88_cli.specs.Answer.{Accepts, Refuses}
 use Rattle.m88_cli.specs.Command.{Command, InputKind, no_input, source_to_assemble, source_to_link, object_text, record_text, scripted_source, sources_to_link, traced_source, kind_of}
 use Rattle.m88_cli.specs.Kinds.{IsAcceptedAs, IsRefusedAs}
-use Rattle.m88_cli.specs.Loading.{IsRecords, IsRefusedRecords, srec_refusal}
 use Rattle.m88_cli.specs.Monitoring.{IsMonitorInput, IsRefusedMonitor}
 use Rattle.m88_cli.specs.Sources.{most_sources}
 use Rattle.m88_cli.specs.TracedSources.{IsRefusedTrace}
@@ -36,13 +36,6 @@ refused_once input r s (inr a) (inr b) =
     same_program_refusal b.parts.lines b.parts.source r s
     (subst (λ (p : ScriptParts). IsRefusedProgram p.lines p.source r) same a.is_refused) b.is_refused
 
--- S-records are accepted or refused
-records_or_refusal : (text : List ℕ) → IsRecords text ⊎ ((r : Refusal) × IsRefusedRecords text r)
-records_or_refusal text = elim (one_record_verdict text).some [
-  | inl accepted ↦ inl accepted
-  | inr fault ↦ inr (_, record { fault = fault.0; is_first = fault.1; refusal = refl })
-]
-
 -- inputs of the monitor
 monitor_or_refusal : (input : List ℕ) → IsMonitorInput input ⊎ ((r : Refusal) × IsRefusedMonitor input r)
 monitor_or_refusal input = elim (scripts.one_verdict input).some [
@@ -62,11 +55,7 @@ of_kind no_input input = told_once (IsRefusedAs no_input input) (inl tt) (λ r a
 of_kind source_to_assemble source = one_assembly_verdict 0 source
 of_kind source_to_link source = one_program_verdict 0 source
 of_kind object_text text = one_linking_verdict text
-of_kind record_text text = told_once (IsRefusedRecords text) (records_or_refusal text)
-    (λ r accepted refused. (one_record_verdict text).not_both accepted.0 refused.fault accepted.1 refused.is_first)
-    (λ r s a b.
-    let fault = (one_record_verdict text).one_fault a.fault b.fault a.is_first b.is_first in
-    a.refusal ∙ ap srec_refusal fault ∙ sym b.refusal)
+of_kind record_text text = one_records_refusal text
 of_kind scripted_source input =
     told_once (IsRefusedMonitor input) (monitor_or_refusal input) (not_accepted input) (refused_once input)
 of_kind sources_to_link input = one_several_verdict most_sources input

@@ -8,8 +8,7 @@ use Rattle.m88_cli.specs.Command.{Command, Spells, reads_input}
 -- the source, with these bytes left before and those after, gave a command its input: all that it had, to its end; a
 -- command that reads none has the empty input
 abbrev pub GivesInput : Command → Option (List ℕ) → Option (List ℕ) → List ℕ → Type 0
-GivesInput command before after input =
-    MatchBool (reads_input command) (GivesAll before after input) (input ≡ [])
+GivesInput command before after input = MatchBool (reads_input command) (GivesAll before after input) (input ≡ [])
 
 -- the words spell a command, the source gave it its input, and something holds of these two
 pub record Given (words : List (List ℕ)) (before after : Option (List ℕ))
@@ -29,5 +28,4 @@ CarriedOut words before after IsText SinkIsGiven WatchIsShown = Given words befo
 
 -- what a source has left is the input for a command, and not too long; a command that reads none has the empty input
 abbrev pub HasInput : Command → Option (List ℕ) → List ℕ → Type 0
-HasInput command left input =
-    MatchBool (reads_input command) (IsInputLeft left input) (input ≡ [])
+HasInput command left input = MatchBool (reads_input command) (IsInputLeft left input) (input ≡ [])

@@ -1,8 +1,8 @@
 -- Which inputs of each kind are accepted, and where and why any other is refused.
 use Rattle.std.specs.Prelude.{ℕ, List}
 use Rattle.m88_asm.specs.Sources.{IsAssemblySource, IsProgramSource, IsRefusedProgram, IsRefusedSource}
+use Rattle.m88_srec.specs.Refused.{IsRecords, IsRefusedRecords}
 use Rattle.m88_cli.specs.Command.{InputKind, no_input, source_to_assemble, source_to_link, object_text, record_text, scripted_source, sources_to_link, traced_source}
-use Rattle.m88_cli.specs.Loading.{IsRecords, IsRefusedRecords}
 use Rattle.m88_cli.specs.Monitoring.{IsMonitorInput, IsRefusedMonitor}
 use Rattle.m88_asm.specs.LinkedTexts.{IsLinkableText, IsRefusedObjects}
 use Rattle.m88_cli.specs.Sources.{IsRefusedSources, IsSourcesInput}

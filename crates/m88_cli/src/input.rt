@@ -1,16 +1,15 @@
 //! The input that a command reads, as it wants it.
 ghost use Rattle.std.specs.Prelude.{ℕ, ◌≡◌, ◌≤◌, IfErr, IfOk, List, false, true, length};
-ghost use Rattle.std.specs.Io.KnownBytes.{Consumes, IsAtEnd};
+ghost use Rattle.m88_srec.specs.Refused.{AreRecordsOf};
 ghost use Rattle.m88_cli.specs.Command.{command_of, kind_of, reads_input};
-ghost use Rattle.m88_cli.specs.Inside.Inputs.{AreRecordsOf, IsKeptAs, IsMadeOf, IsReadFrom, IsRecordsRead, IsTextRead};
+ghost use Rattle.m88_cli.specs.Inside.Inputs.{IsKeptAs, IsMadeOf, IsReadFrom, IsRecordsRead, IsTextRead};
 ghost use Rattle.m88_base.specs.Reading.{ReadsSource};
 ghost use Rattle.m88_cli.specs.Limits.{most_input};
-ghost use Rattle.m88_cli.specs.Loading.{srec_refusal};
 
 use crate::commands::Command;
 use crate::limits::MOST_INPUT;
-use m88_base::{Image, NoMemory, ReadEnd, Refusal, Source, read_all};
-use m88_srec::{LoadEnd, SrecFault, read_image};
+use m88_base::{Image, ReadEnd, Refusal, Source, read_all};
+use m88_srec::read_records;
 use std::alloc::Global;
 
 /// The whole input of a command.
@@ -50,7 +49,7 @@ impl Input {
 }
 
 /// The whole input of a command; one that reads none leaves the source alone.
-#[tactic(auto, using(m88_base::proofs::Calls::calls_none))]
+#[tactic(auto, using(m88_base::proofs::Laws::calls_none))]
 pub fn input_of<S: Source>(
     alloc: Global,
     command: &Command,
@@ -75,32 +74,4 @@ pub fn input_of<S: Source>(
             Ok(Input::Text(text))
         }
     }
-}
-
-/// The image that a source writes as S-records, or their refusal. Their text is not kept.
-fn read_records<S: Source>(alloc: Global, source: &mut S) -> Result<Result<Image, Refusal>, ReadEnd>
-    ensures ok { IfOk result (λ records. (text : List ℕ)
-        × Consumes (S.left source.old) (S.left source.new) text
-        × IsAtEnd (S.left source.new) × AreRecordsOf records text) }
-    ensures reading { ReadsSource ReadEnd.SourceFault ReadEnd.TooLong S.left S.calls S.faults
-        source.old source.new result }
-{
-    match read_image(alloc, source, MOST_INPUT) {
-        Ok(image) => Ok(Ok(image)),
-        Err(LoadEnd::Refused(fault)) => {
-            let refusal = unloaded(alloc, &fault).or(Err(ReadEnd::Memory))?;
-            Ok(Err(refusal))
-        }
-        Err(LoadEnd::SourceFault) => Err(ReadEnd::SourceFault),
-        Err(LoadEnd::TooLong) => Err(ReadEnd::TooLong),
-        Err(LoadEnd::Memory) => Err(ReadEnd::Memory),
-    }
-}
-
-/// The refusal of S-records for a fault.
-fn unloaded(alloc: Global, fault: &SrecFault) -> Result<Refusal, NoMemory>
-    ensures { IfOk result (λ r. r ≡ srec_refusal fault.now) }
-{
-    let reason = fault.kind.to_string(alloc)?;
-    Ok(Refusal::new(u64::from(fault.line), 1, reason))
 }

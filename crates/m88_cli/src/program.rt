@@ -1,11 +1,10 @@
 //! The top call.
-ghost use Rattle.std.specs.Prelude.{[], ◌≡◌, ◌≢◌, ◌↔◌, ◌⊎◌, ℕ, List, IfErr, IfOk, OnErr, Some, false};
-ghost use Rattle.m88_base.specs.Causes.{Rose};
-ghost use Rattle.m88_base.specs.Filter.{ReadsFor, WritesFor, WritesPart, WritesText};
+ghost use Rattle.std.specs.Prelude.{◌≡◌, ◌≢◌, ◌↔◌, ◌⊎◌, ℕ, List, IfErr, IfOk, OnErr, Some, false};
+ghost use Rattle.m88_base.specs.Filter.{AnswersUnfailed, ReadsFor, WritesFor, WritesPart, WritesText};
 ghost use Rattle.m88_base.specs.OneVerdict.{HasOneFaultUnless, HasOneVerdict};
 ghost use Rattle.m88_base.specs.Outside.{IsWhole};
 ghost use Rattle.m88_base.specs.Reading.{ReadsSource};
-ghost use Rattle.m88_base.specs.Status.{Answers, IsOfReading};
+ghost use Rattle.m88_base.specs.Status.{IsOfReading};
 ghost use Rattle.m88_cli.specs.Answer.{Accepts, IsAnswer, IsAnswerToAccepted, IsAnswerToRefused, IsOutput, Refuses};
 ghost use Rattle.m88_cli.specs.Bridge.{AssembledLinksAlike, BuiltRunsAlike, ListedBuildsAlike, TracedIsChecked};
 ghost use Rattle.m88_cli.specs.Calls.{CarriedOut, GivesInput, Given, HasInput};
@@ -66,7 +65,7 @@ pub fn m88<S: Source, K: Sink, W: Watch>(
         (λ _ _. watch.new ≡ watch.old) }
     ensures refusal { (command : Choice) (input : List ℕ) (refusal : Refusal)
         → Spells (texts words.now) command → Refuses command input refusal
-        → S.left source.old ≡ Some input → S.left source.new ≡ Some []
+        → S.left source.old ≡ Some input
         → IsWhole (K.held sink.old) (K.held sink.new) (refusal_line refusal)
         → result ≡ Status.Refused }
 
@@ -79,11 +78,9 @@ pub fn m88<S: Source, K: Sink, W: Watch>(
 
     // Where nothing failed, an input that is not too long is answered: Done if it is accepted, Refused if
     // it is not, or Memory.
-    ensures complete { (command : Choice) (input : List ℕ) → Spells (texts words.now) command
-        → HasInput command (S.left source.old) input
-        → ¬ Rose (S.faults source.old) (S.faults source.new)
-        → ¬ Rose (K.faults sink.old) (K.faults sink.new)
-        → Answers (Accepts command input) result }
+    ensures complete { (command : Choice) → Spells (texts words.now) command
+        → AnswersUnfailed S.faults K.faults source.old source.new sink.old sink.new
+        (HasInput command (S.left source.old)) (Accepts command) result }
 
     // Without an answer, with a refusal, and by a command that has no run the watch was shown nothing; where
     // memory ran out nothing, or a front of the boards of an input that is accepted.

@@ -16,7 +16,8 @@ pub use Rattle.m88_disasm.proofs.Rows.{AreRead, Stated, read_all, read_none, rea
 -- statements that give the bytes of parts and name addresses are a source of these parts
 pub use Rattle.m88_disasm.proofs.Given.{Data, Gives, IsUse, Means, Names, PartsData, Sets, a_set, data_behind, more_data, more_parts, no_data, no_parts, no_set}
 pub use Rattle.m88_disasm.proofs.Bodies.{ArePieces, AreBytes, gives_byte, gives_instr, pieces_of}
-pub use Rattle.m88_disasm.proofs.Linking.{AreInOrder}
+pub use Rattle.m88_disasm.proofs.Accepting.{opened_in, opened_sections, parts_heads, sets_heads}
+pub use Rattle.m88_disasm.proofs.Linking.{AreInOrder, RoomsAre, hits_cons, lengths_behind, lengths_cons, lengths_of, parts_lengths, room, rooms_are, rooms_count}
 pub use Rattle.m88_disasm.proofs.Naming.{AreLow, AreOnce, HasName, IsNew, MeanOne, names_in, names_of}
 pub use Rattle.m88_disasm.proofs.Built.{IsWritten, accepted, bases, bytes_are, empty_first, main, means_all, start_is, stood}
-pub use Rattle.m88_disasm.proofs.Standing.{Bases, Empty, Fresh, Stands, address_is, empty_behind, fresh_behind, located_cons, located_none, none_in, opens_part, stands_behind}
+pub use Rattle.m88_disasm.proofs.Standing.{Bases, Empty, Fresh, Stands, address_is, bytes_behind, empty_behind, fresh_behind, located_cons, located_none, none_in, opens_part, stands_behind}

@@ -9,7 +9,7 @@ mod operand;
 mod put;
 mod text;
 
-pub use lister::{listing, push_byte, push_hexadecimal, push_line, push_place, push_start};
+pub use lister::{listing, push_byte, push_line, push_place, push_start};
 pub use mnemonics::{of_branch, of_branch_bit, of_branch_cond};
 pub use operand::{Condition, Operand};
 pub use put::InstrText;

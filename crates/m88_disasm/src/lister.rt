@@ -21,7 +21,7 @@ const MOST_LINE: usize = MOST_TEXT + 1;
 const MOST_PER_BYTE: usize = MOST_LINE + 15;
 
 /// Appends 0x, a word in eight digits, and a line end.
-pub fn push_hexadecimal(text: &mut Vec<u8>, n: u32) -> Result<(), AllocError>
+fn push_hexadecimal(text: &mut Vec<u8>, n: u32) -> Result<(), AllocError>
     ensures { OnOk result (text.new.items ≡ text.old.items ++ (hexadecimal n ++ line_end)) }
 {
     text.extend_from_slice(b"0x")?;

@@ -1,19 +1,14 @@
 //! The top call.
-ghost use Rattle.std.specs.Prelude.{◌≡◌, ◌↔◌, ◌<◌, ℕ, IfErr, IfOk, List, length};
-ghost use Rattle.m88_base.specs.Causes.{Rose};
-ghost use Rattle.m88_base.specs.Filter.{AnswersFor, IsInputLeft, ReadsFor, WritesFor};
+ghost use Rattle.std.specs.Prelude.{◌≡◌, ◌<◌, ℕ, List, length};
+ghost use Rattle.m88_base.specs.Filter.{AnswersFor, AnswersUnfailed, IsInputLeft, ReadsFor, UsageFor, WritesFor};
 ghost use Rattle.m88_base.specs.OneVerdict.{HasOneFaultUnless};
-ghost use Rattle.m88_base.specs.Outside.{GivesAll};
-ghost use Rattle.m88_base.specs.Reading.{ReadsSource};
-ghost use Rattle.m88_base.specs.Status.{Answers, IsOfReading};
 ghost use Rattle.m88_asm.specs.Sources.{IsProgramSource, IsRefusedProgram};
 ghost use Rattle.m88_listing.specs.Answer.{Lists, ListsRefused};
 ghost use Rattle.m88_listing.specs.Laws.{EachLineStandsOnce, EachShowsItsImage};
 ghost use Rattle.m88_listing.specs.Listing.{ListsAccepted};
-ghost use Rattle.m88_listing.specs.Inside.Replies.{ListsAs};
 
 use crate::listing::reply_to;
-use m88_base::{MOST_INPUT, Reply, Sink, Source, Status, read_all};
+use m88_base::{Sink, Source, Status, read_then};
 use std::alloc::Global;
 
 /// The whole program between its words, of which none are taken, a source and a sink: the source is read to its end,
@@ -24,9 +19,8 @@ pub fn m88list<S: Source, K: Sink>(
     source: &mut S,
     sink: &mut K,
 ) -> Status
-    // Any word, exactly. Then nothing is read.
-    ensures usage { (result ≡ Status.Usage) ↔ (0 < length words.now) }
-    ensures unread { 0 < length words.now → source.new ≡ source.old }
+    // Any word is one too many. Then nothing is read.
+    ensures usage { UsageFor (0 < length words.now) source.old source.new result }
 
     // Whatever the answer is: at most two calls more are made of the source than an input may have bytes. A source
     // or a sink is blamed only for what it did, and no failure is passed over. Without a text nothing is written.
@@ -42,11 +36,9 @@ pub fn m88list<S: Source, K: Sink>(
 
     // Without words, and where nothing failed, a source that is not too long is answered: Done if it is
     // accepted, Refused if it is not, or Memory.
-    ensures complete { (bytes : List ℕ) → length words.now ≡ 0
-        → IsInputLeft (S.left source.old) bytes
-        → ¬ Rose (S.faults source.old) (S.faults source.new)
-        → ¬ Rose (K.faults sink.old) (K.faults sink.new)
-        → Answers (IsProgramSource bytes) result }
+    ensures complete { length words.now ≡ 0
+        → AnswersUnfailed S.faults K.faults source.old source.new sink.old sink.new
+        (IsInputLeft (S.left source.old)) IsProgramSource result }
 
     // A source is accepted, or refused for one reason, never both; and no two texts list it.
     ensures one_verdict { (bytes : List ℕ)
@@ -61,21 +53,8 @@ pub fn m88list<S: Source, K: Sink>(
     if !words.is_empty() {
         return Status::Usage;
     }
-    match reply_from(alloc, source) {
+    match read_then(alloc, source, |input| reply_to(alloc, input)) {
         Ok(reply) => reply.write_to(sink),
         Err(status) => status,
     }
-}
-
-/// The reply to what a source gives, or why there is none.
-fn reply_from<S: Source>(alloc: Global, source: &mut S) -> Result<Reply, Status>
-    ensures ok { IfOk result (λ reply. (bytes : List ℕ)
-        × GivesAll (S.left source.old) (S.left source.new) bytes × ListsAs bytes reply) }
-    ensures reading { ReadsSource Status.SourceFault Status.TooLong S.left S.calls S.faults
-        source.old source.new result }
-    ensures status { IfErr result IsOfReading }
-{
-    let bytes = read_all(alloc, source, MOST_INPUT)?;
-    let reply = reply_to(alloc, bytes.as_slice())?;
-    Ok(reply)
 }

@@ -11,7 +11,7 @@ use Rattle.m88_isa.proofs.Laws.{by_test}
 use Rattle.m88_isa.specs.Bus.{changed_words, loaded, stored}
 use Rattle.m88_isa.specs.Triples.{access_in, is_valid_triple}
 use Rattle.m88_isa.specs.declared.planned.Access.{Access}
-use Rattle.m88_monitor.proofs.Steps.{second_kept, third_kept, third_kept_again}
+use Rattle.m88_monitor.proofs.Laws.{second_kept, third_kept, third_kept_again}
 use Rattle.m88_monitor.specs.Serving.{Serving, after_access_at, after_service, after_triple, triple_at, with_finished, with_loaded, without_bit}
 use Rattle.m88_report.specs.Report.{word_line}
 use Rattle.m88_serving.proofs.Marked.{else_is, then_is}

@@ -1,17 +1,12 @@
 //! The top call.
-ghost use Rattle.std.specs.Prelude.{◌≡◌, ◌↔◌, ◌<◌, ℕ, IfErr, IfOk, List, length};
-ghost use Rattle.m88_base.specs.Causes.{Rose};
-ghost use Rattle.m88_base.specs.Filter.{AnswersFor, IsInputLeft, ReadsFor, WritesFor};
-ghost use Rattle.m88_base.specs.Outside.{GivesAll};
-ghost use Rattle.m88_base.specs.Reading.{ReadsSource};
-ghost use Rattle.m88_base.specs.Status.{Answers, IsOfReading};
+ghost use Rattle.std.specs.Prelude.{◌≡◌, ◌<◌, length};
+ghost use Rattle.m88_base.specs.Filter.{AnswersFor, AnswersUnfailed, IsInputLeft, ReadsFor, UsageFor, WritesFor};
 ghost use Rattle.m88_serving.specs.Laws.{EachDmtIsOfAnAccess, EachFaultIsServed, EachInputHasOneVerdict, EachLeavesNoneWaiting};
 ghost use Rattle.m88_serving.specs.Served.{IsServed, IsTurnedDown};
 ghost use Rattle.m88_serving.specs.Verdict.{IsTakenCase};
-ghost use Rattle.m88_serving.specs.Inside.Replies.{RepliesServed};
 
 use crate::reply::reply_to;
-use m88_base::{MOST_INPUT, Reply, Sink, Source, Status, read_all};
+use m88_base::{Sink, Source, Status, read_then};
 use std::alloc::Global;
 
 /// The whole program between its words, of which none are taken, a source and a sink: the source is read to its end,
@@ -22,9 +17,8 @@ pub fn m88serve<S: Source, K: Sink>(
     source: &mut S,
     sink: &mut K,
 ) -> Status
-    // Any word, exactly. Then nothing is read.
-    ensures usage { (result ≡ Status.Usage) ↔ (0 < length words.now) }
-    ensures unread { 0 < length words.now → source.new ≡ source.old }
+    // Any word is one too many. Then nothing is read.
+    ensures usage { UsageFor (0 < length words.now) source.old source.new result }
 
     // Whatever the answer is: at most two calls more are made of the source than an input may have bytes. A source
     // or a sink is blamed only for what it did, and no failure is passed over. Without a text nothing is written.
@@ -40,11 +34,9 @@ pub fn m88serve<S: Source, K: Sink>(
 
     // Without words, and where nothing failed, an input that is not too long is answered: Done if it is
     // accepted, Refused if it is not, or Memory.
-    ensures complete { (bytes : List ℕ) → length words.now ≡ 0
-        → IsInputLeft (S.left source.old) bytes
-        → ¬ Rose (S.faults source.old) (S.faults source.new)
-        → ¬ Rose (K.faults sink.old) (K.faults sink.new)
-        → Answers (IsTakenCase bytes) result }
+    ensures complete { length words.now ≡ 0
+        → AnswersUnfailed S.faults K.faults source.old source.new sink.old sink.new
+        (IsInputLeft (S.left source.old)) IsTakenCase result }
 
     // Each input is accepted or has one first fault, never both. A word is taken as a DMT exactly where an access of
     // some instruction has it. Behind the service of what is accepted no register waits.
@@ -58,21 +50,8 @@ pub fn m88serve<S: Source, K: Sink>(
     if !words.is_empty() {
         return Status::Usage;
     }
-    match reply_from(alloc, source) {
+    match read_then(alloc, source, |input| reply_to(alloc, input)) {
         Ok(reply) => reply.write_to(sink),
         Err(status) => status,
     }
-}
-
-/// The reply to what a source gives, or why there is none.
-fn reply_from<S: Source>(alloc: Global, source: &mut S) -> Result<Reply, Status>
-    ensures ok { IfOk result (λ reply. (bytes : List ℕ)
-        × GivesAll (S.left source.old) (S.left source.new) bytes × RepliesServed bytes reply) }
-    ensures reading { ReadsSource Status.SourceFault Status.TooLong S.left S.calls S.faults
-        source.old source.new result }
-    ensures status { IfErr result IsOfReading }
-{
-    let bytes = read_all(alloc, source, MOST_INPUT)?;
-    let reply = reply_to(alloc, bytes.as_slice())?;
-    Ok(reply)
 }

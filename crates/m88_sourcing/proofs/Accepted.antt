@@ -21,9 +21,7 @@ use Rattle.m88_link.specs.declared.object.Symbol.{Symbol}
 use Rattle.m88_asm.specs.Counters.{at_begin}
 use Rattle.m88_asm.specs.Objects.{Head, first_heads, heads_in}
 use Rattle.m88_asm.specs.Units.{extent_under, extents_in, section_length}
-use Rattle.m88_disasm.proofs.Accepting.{opened_in, opened_sections, parts_heads, sets_heads}
-use Rattle.m88_disasm.proofs.Laws.{Names, PartsData, Sets, empty_first, main, stood}
-use Rattle.m88_disasm.proofs.Linking.{RoomsAre, hits_cons, lengths_behind, parts_lengths, room, rooms_are, rooms_count}
+use Rattle.m88_disasm.proofs.Laws.{Names, PartsData, RoomsAre, Sets, empty_first, hits_cons, lengths_behind, main, opened_in, opened_sections, parts_heads, parts_lengths, room, rooms_are, rooms_count, sets_heads, stood}
 
 -- rooms: two without a part, and those of the parts
 pub record AreRoomed (runs : List Placed) (es : List Extent) : Type 0 where

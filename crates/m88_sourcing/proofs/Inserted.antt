@@ -38,8 +38,7 @@ use Rattle.m88_asm.specs.Objects.{lines_in, symbol_uses, symbols_in}
 use Rattle.m88_asm.specs.Units.{base_in, globals_in, references_in, unit_layout, value_in_module}
 use Rattle.m88_asm.proofs.Laws.{length-filled_bytes}
 use Rattle.m88_disasm.specs.Read.{unlabelled}
-use Rattle.m88_disasm.proofs.Laws.{Empty, Means, Names, Sets, a_set, bases, empty_behind, empty_first, located_cons, main, means_all, no_set, start_is, stood, unit_of}
-use Rattle.m88_disasm.proofs.Standing.{bytes_behind}
+use Rattle.m88_disasm.proofs.Laws.{Empty, Means, Names, Sets, a_set, bases, bytes_behind, empty_behind, empty_first, located_cons, main, means_all, no_set, start_is, stood, unit_of}
 use Rattle.m88_sourcing.specs.Code.{InCode, IsCode, HoldsInstruction}
 use Rattle.m88_sourcing.specs.Flow.{branch_target}
 use Rattle.m88_sourcing.specs.Insertion.{IsCarriedBy, IsFoundAgain, IsAgainAt, LeadsAgain, MovesCodeAlone}

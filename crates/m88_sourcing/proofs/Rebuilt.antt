@@ -14,8 +14,7 @@ use Rattle.m88_base.specs.Found.{IsPart}
 use Rattle.m88_base.specs.Image.{IsImage, ProgramImage, byte_at, byte_count, most_bytes, parts}
 use Rattle.m88_base.specs.Lines.{text_of_lines}
 use Rattle.m88_base.specs.Placed.{AreApart, Placed, byte_among, byte_in, count_among}
-use Rattle.m88_base.proofs.Cuts.{run_is_part}
-use Rattle.m88_base.proofs.Laws.{byte_among-append, byte_in_above, byte_in_below}
+use Rattle.m88_base.proofs.Laws.{byte_among-append, byte_in_above, byte_in_below, run_is_part}
 use Rattle.m88_parse.specs.declared.unit.Body.TheVariants as body
 use Rattle.m88_parse.specs.declared.unit.Statement.{Statement}
 use Rattle.m88_disasm.specs.Listing.{start_line}

@@ -18,8 +18,7 @@ use Rattle.m88_asm.specs.Counters.{Counters, Located, after, at_begin, at_sectio
 use Rattle.m88_asm.specs.Objects.{Head, declares, first_heads, heads_in, labels_at, lines_in, marked, opened_by, opens, sets_at, symbols_in, symbols_of}
 use Rattle.m88_asm.specs.Units.{base_in, extent_under, extents_in, globals_in, length_in, section_length}
 use Rattle.m88_disasm.specs.Read.{unlabelled}
-use Rattle.m88_disasm.proofs.Laws.{Names, Sets, a_set, located_cons, main, names_in, names_of, no_set, stood}
-use Rattle.m88_disasm.proofs.Linking.{lengths_cons, lengths_of}
+use Rattle.m88_disasm.proofs.Laws.{Names, Sets, a_set, lengths_cons, lengths_of, located_cons, main, names_in, names_of, no_set, stood}
 use Rattle.m88_sourcing.proofs.Places.{AllAt, IsBranchAt, IsPlain, IsSimple, WaitsFor, place_behind}
 
 -- a body that goes on in its section, or opens one, wherever it stands

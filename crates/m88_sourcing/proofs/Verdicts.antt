@@ -3,17 +3,17 @@ use Rattle.std.proofs.Common.{◌≡◌, ◌⊎◌, ◌∙◌, ℕ, ◌+◌, ◌
 use Rattle.std.specs.Prelude.{MatchBool}
 use Rattle.std.proofs.lemmas.Bool.{cases_lt}
 use Rattle.std.proofs.lemmas.Option.{slice_get-get_or}
-use Rattle.m88_base.proofs.Laws.{AreVerdicts, byte_in_at, same_images}
+use Rattle.m88_base.proofs.Laws.{AreVerdicts, byte_in_at, same_images, told_once}
 use Rattle.m88_base.specs.Image.{IsImage, ProgramImage, byte_at}
 use Rattle.m88_base.specs.OneVerdict.{HasOneFaultUnless}
 use Rattle.m88_base.specs.Reply.{AnswersAs}
 use Rattle.m88_base.specs.Placed.{byte_in}
 use Rattle.m88_base.specs.Refusal.{Refusal, refusal_line}
 use Rattle.m88_base.specs.declared.reply.Reply.{Reply}
-use Rattle.m88_srec.proofs.Laws.{one_record_verdict, verdict_takes}
+use Rattle.m88_srec.proofs.Laws.{one_record_verdict, one_records_refusal, verdict_takes}
 use Rattle.m88_srec.specs.Accepted.{Whole, whole_of}
 use Rattle.m88_sourcing.specs.Answer.{AsAsked, Sources, SourcesAccepted, SourcesRefused}
-use Rattle.m88_sourcing.specs.Inputs.{IsAcceptedIn, IsImageIn, IsRefusedIn, binary_refusal, records_refusal}
+use Rattle.m88_sourcing.specs.Inputs.{IsAcceptedIn, IsImageIn, IsRefusedIn, binary_refusal}
 use Rattle.m88_sourcing.specs.Inside.Replies.{SourcesAs}
 use Rattle.m88_sourcing.specs.Request.{Asks, Request}
 use Rattle.m88_sourcing.specs.Source.{IsSource}
@@ -40,36 +40,21 @@ accepted_in None input image is = (whole_of image, is.1)
 accepted_in (Some at) input image is = λ past.
     none_past image at input is.0 (subst (λ (n : ℕ). n < 2 ^ 32) is.1.start is.0.start) is.1.found past
 
-pub not_both : (at : Option ℕ) (input : List ℕ) (r : Refusal) → IsAcceptedIn at input → IsRefusedIn at input r → ⊥
-not_both None input r accepted refused =
-    (one_record_verdict input).not_both accepted.0 refused.fault accepted.1 refused.is_first
-not_both (Some at) input r accepted refused = accepted refused.0
-
-pub one_refusal : (at : Option ℕ) (input : List ℕ) (r s : Refusal) → IsRefusedIn at input r → IsRefusedIn at input s → r ≡ s
-one_refusal None input r s a b =
-    a.refusal ∙ ap records_refusal ((one_record_verdict input).one_fault a.fault b.fault a.is_first b.is_first) ∙ sym b.refusal
-one_refusal (Some at) input r s a b = a.1 ∙ sym b.1
-
-accepted_or_refused : (at : Option ℕ) (input : List ℕ) → IsAcceptedIn at input ⊎ ((r : Refusal) × IsRefusedIn at input r)
-accepted_or_refused None input = elim (one_record_verdict input).some [
-  | inl whole ↦ inl whole
-  | inr fault ↦ inr (records_refusal fault.0, record { fault = fault.0; is_first = fault.1; refusal = refl })
-]
-accepted_or_refused (Some at) input = elim (cases_lt (2 ^ 32) (at + length input)) [
-  | inl past ↦ inr (binary_refusal, (past, refl))
-  | inr within ↦ inl (λ past. absurd (omega (arith, past, within)))
-]
+-- a binary reaches past the last address or doesn't
+of_binary : (at : ℕ) (input : List ℕ) → HasOneFaultUnless (IsAcceptedIn (Some at) input) (IsRefusedIn (Some at) input)
+of_binary at input = told_once (IsRefusedIn (Some at) input)
+    (elim (cases_lt (2 ^ 32) (at + length input)) [
+      | inl past ↦ inr (binary_refusal, (past, refl))
+      | inr within ↦ inl (λ past. absurd (omega (arith, past, within)))
+    ])
+    (λ r accepted refused. accepted refused.0) (λ r s a b. a.1 ∙ sym b.1)
 
 pub one_verdict_in : (at : Option ℕ) (input : List ℕ) → HasOneFaultUnless (IsAcceptedIn at input) (IsRefusedIn at input)
-one_verdict_in at input = record {
-  some = elim (accepted_or_refused at input) [
-    | inl accepted ↦ inl (tt, accepted)
-    | inr refused ↦ inr refused
-  ];
-  not_both = λ value r accepted refused. not_both at input r accepted refused;
-  one_value = λ a b left right. refl;
-  one_fault = one_refusal at input;
-}
+one_verdict_in None input = one_records_refusal input
+one_verdict_in (Some at) input = of_binary at input
+
+pub not_both : (at : Option ℕ) (input : List ℕ) (r : Refusal) → IsAcceptedIn at input → IsRefusedIn at input r → ⊥
+not_both at input r accepted refused = (one_verdict_in at input).not_both tt r accepted refused
 
 one_image : (at : Option ℕ) (input : List ℕ) (i j : ProgramImage) → IsImageIn at input i → IsImageIn at input j → i ≡ j
 one_image None input i j a b =
@@ -90,7 +75,7 @@ one_answer request input a b (inl x) (inr y) =
 one_answer request input a b (inr x) (inl y) =
     absurd (not_both request.at input x.refusal (accepted_in request.at input y.image y.is_image) x.refused)
 one_answer request input a b (inr x) (inr y) =
-    x.is_text ∙ ap refusal_line (one_refusal request.at input x.refusal y.refusal x.refused y.refused) ∙ sym y.is_text
+    x.is_text ∙ ap refusal_line ((one_verdict_in request.at input).one_fault x.refusal y.refusal x.refused y.refused) ∙ sym y.is_text
 
 -- a refusal has a byte
 pub sourced_some : (words : List (List ℕ)) (input text : List ℕ) → AsAsked words SourcesRefused input text → 0 < length text

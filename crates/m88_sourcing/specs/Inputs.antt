@@ -3,10 +3,8 @@ use Rattle.std.specs.Prelude.{◌≡◌, ℕ, ◌+◌, ◌<◌, ◌^◌, List, O
 use Rattle.m88_base.specs.Image.{IsImage, ProgramImage, byte_at}
 use Rattle.m88_base.specs.Placed.{byte_in}
 use Rattle.m88_base.specs.Refusal.{Refusal}
-use Rattle.m88_srec.specs.Accepted.{IsAccepted, Whole, whole_of}
-use Rattle.m88_srec.specs.Reasons.{srec_reason}
-use Rattle.m88_srec.specs.Verdict.{IsFirstSrecFault}
-use Rattle.m88_srec.specs.declared.fault.SrecFault.{SrecFault}
+use Rattle.m88_srec.specs.Accepted.{IsAccepted, whole_of}
+use Rattle.m88_srec.specs.Refused.{IsRecords, IsRefusedRecords}
 
 -- the image has the bytes from an address on, and starts there
 pub record IsBinaryAt (at : ℕ) (bytes : List ℕ) (image : ProgramImage) : Type 0 where
@@ -16,16 +14,6 @@ pub record IsBinaryAt (at : ℕ) (bytes : List ℕ) (image : ProgramImage) : Typ
 -- one of the bytes would lie past the last address
 abbrev pub ReachesPast : ℕ → List ℕ → Type 0
 ReachesPast at bytes = 2 ^ 32 < at + length bytes
-
--- the refusal for a fault of S-records, told at column 1 of its line
-abbrev pub records_refusal : SrecFault → Refusal
-records_refusal fault = record { line = fault.line; column = 1; reason = srec_reason fault.kind }
-
--- S-records are refused at their first fault
-pub record AreRefusedRecords (text : List ℕ) (r : Refusal) : Type 0 where
-  pub fault : SrecFault
-  pub is_first : IsFirstSrecFault text fault
-  pub refusal : r ≡ records_refusal fault
 
 -- the refusal of a binary
 abbrev pub binary_refusal : Refusal
@@ -42,11 +30,11 @@ IsImageIn at input image = IsImage image × SaysImage at input image
 
 -- how it is refused
 abbrev pub IsRefusedIn : Option ℕ → List ℕ → Refusal → Type 0
-IsRefusedIn None input r = AreRefusedRecords input r
+IsRefusedIn None input r = IsRefusedRecords input r
 IsRefusedIn (Some at) input r = ReachesPast at input × (r ≡ binary_refusal)
 
 -- an input is accepted: S-records that write some bytes and a start, or a binary none of whose bytes would lie past the
 -- last address
 abbrev pub IsAcceptedIn : Option ℕ → List ℕ → Type 0
-IsAcceptedIn None input = (whole : Whole) × IsAccepted input whole
+IsAcceptedIn None input = IsRecords input
 IsAcceptedIn (Some at) input = ¬ ReachesPast at input

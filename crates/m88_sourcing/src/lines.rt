@@ -2,7 +2,6 @@
 ghost use Rattle.std.specs.Prelude.{◌≡◌, ◌*◌, ◌<◌, ◌≤◌, ◌++◌, ◌∷◌, IsTrue, OnOk, codes, flat_map, length, take};
 ghost use Rattle.std.specs.Int.{from_be_bytes, w32};
 ghost use Rattle.std.specs.FinSet.{contains};
-ghost use Rattle.m88_base.specs.Hex.{hex8};
 ghost use Rattle.m88_base.specs.Lines.{line_end};
 ghost use Rattle.m88_disasm.specs.Text.{hexadecimal};
 ghost use Rattle.m88_sourcing.specs.Data.{in_text, text_line, words_line, zeros_line};
@@ -12,32 +11,16 @@ ghost use Rattle.m88_sourcing.specs.Labels.{label_line, label_of};
 ghost use Rattle.m88_sourcing.specs.Source.{LineWhere, far_line};
 
 use crate::words::Words;
-use m88_base::{hex_digit, push_decimal, push_hex8};
+use m88_base::{push_decimal, push_hex8, word_digits};
 use m88_codec::word_at;
 use m88_disasm::push_start;
 use std::alloc::AllocError;
-
-/// The eight digits of an address, as in its name.
-fn digits_of(at: u32) -> [u8; 8]
-    ensures { result ≡ hex8 at }
-{
-    [
-        hex_digit(at >> 28),
-        hex_digit(at >> 24 & 15),
-        hex_digit(at >> 20 & 15),
-        hex_digit(at >> 16 & 15),
-        hex_digit(at >> 12 & 15),
-        hex_digit(at >> 8 & 15),
-        hex_digit(at >> 4 & 15),
-        hex_digit(at & 15),
-    ]
-}
 
 /// Appends a byte, the name of an address and the line's end.
 pub(crate) fn push_named(text: &mut Vec<u8>, before: u8, at: u32) -> Result<(), AllocError>
     ensures { OnOk result (text.new.items ≡ text.old.items ++ (before ∷ label_of at) ++ line_end) }
 {
-    let [a, b, c, d, e, f, g, h] = digits_of(at);
+    let [a, b, c, d, e, f, g, h] = word_digits(at);
     text.extend_from_slice(&[before, b'L', a, b, c, d, e, f, g, h, b'\n'])
 }
 
@@ -46,7 +29,7 @@ fn push_label(text: &mut Vec<u8>, at: u32) -> Result<(), AllocError>
     ensures { OnOk result
         (text.new.items ≡ text.old.items ++ (label_line (label_of at) ++ line_end)) }
 {
-    let [a, b, c, d, e, f, g, h] = digits_of(at);
+    let [a, b, c, d, e, f, g, h] = word_digits(at);
     text.extend_from_slice(&[b'L', a, b, c, d, e, f, g, h, b':', b'\n'])
 }
 
@@ -101,7 +84,7 @@ pub(crate) fn push_start_number(
 pub(crate) fn push_far(text: &mut Vec<u8>, at: u32) -> Result<(), AllocError>
     ensures { OnOk result (text.new.items ≡ text.old.items ++ (far_line at ++ line_end)) }
 {
-    let [a, b, c, d, e, f, g, h] = digits_of(at);
+    let [a, b, c, d, e, f, g, h] = word_digits(at);
     text.extend_from_slice(&[
         b'.', b's', b'e', b't', b' ', b'L', a, b, c, d, e, f, g, h, b',', b'0', b'x', a, b, c, d,
         e, f, g, h, b'\n',

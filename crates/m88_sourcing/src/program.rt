@@ -1,11 +1,10 @@
 //! The top call.
-ghost use Rattle.std.specs.Prelude.{◌≡◌, ◌↔◌, ℕ, IfErr, IfOk, List, Option};
-ghost use Rattle.m88_base.specs.Causes.{Rose};
-ghost use Rattle.m88_base.specs.Filter.{AnswersFor, IsInputLeft, ReadsFor, WritesFor};
+ghost use Rattle.std.specs.Prelude.{◌≡◌, ℕ, IfErr, IfOk, List, Option};
+ghost use Rattle.m88_base.specs.Filter.{AnswersFor, AnswersUnfailed, IsInputLeft, ReadsFor, UsageFor, WritesFor};
 ghost use Rattle.m88_base.specs.OneVerdict.{HasOneFaultUnless};
 ghost use Rattle.m88_base.specs.Outside.{GivesAll};
 ghost use Rattle.m88_base.specs.Reading.{ReadsSource};
-ghost use Rattle.m88_base.specs.Status.{Answers, IsOfReading};
+ghost use Rattle.m88_base.specs.Status.{IsOfReading};
 ghost use Rattle.m88_sourcing.specs.Answer.{AsAsked, Sources, SourcesAccepted, SourcesRefused};
 ghost use Rattle.m88_sourcing.specs.Inputs.{IsAcceptedIn, IsRefusedIn};
 ghost use Rattle.m88_sourcing.specs.Inside.Asked.{asked};
@@ -31,10 +30,8 @@ pub fn m88source<S: Source, K: Sink>(
     sink: &mut K,
 ) -> Status
     // Words that ask for nothing, exactly. Then nothing is read.
-    ensures usage { (result ≡ Status.Usage)
-        ↔ ((request : Asked) → ¬ Asks (words_of_call words.now) request) }
-    ensures unread { ((request : Asked) → ¬ Asks (words_of_call words.now) request)
-        → source.new ≡ source.old }
+    ensures usage { UsageFor ((request : Asked) → ¬ Asks (words_of_call words.now) request)
+        source.old source.new result }
 
     // Whatever the answer is: at most two calls more are made of the source than an input may have bytes. A source
     // or a sink is blamed only for what it did, and no failure is passed over. Without a text nothing is written.
@@ -51,11 +48,9 @@ pub fn m88source<S: Source, K: Sink>(
 
     // Where the words ask for something and nothing failed, an input that is not too long is answered: Done if
     // it is accepted, Refused if it is not, or Memory.
-    ensures complete { (request : Asked) (bytes : List ℕ) → Asks (words_of_call words.now) request
-        → IsInputLeft (S.left source.old) bytes
-        → ¬ Rose (S.faults source.old) (S.faults source.new)
-        → ¬ Rose (K.faults sink.old) (K.faults sink.new)
-        → Answers (IsAcceptedIn request.at bytes) result }
+    ensures complete { (request : Asked) → Asks (words_of_call words.now) request
+        → AnswersUnfailed S.faults K.faults source.old source.new sink.old sink.new
+        (IsInputLeft (S.left source.old)) (IsAcceptedIn request.at) result }
 
     // Words ask for one thing. An input is accepted, or refused for one reason, never both; and it has one text.
     ensures one_request { (a b : Asked) → Asks (words_of_call words.now) a

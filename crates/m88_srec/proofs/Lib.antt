@@ -4,6 +4,7 @@ pub mod Framing
 pub mod Free
 pub mod Reading
 pub mod Law
+pub mod Refusing
 pub mod Cutting
 pub mod Spelled
 pub mod Trip

@@ -5,6 +5,7 @@ pub mod Accepted
 pub mod Verdict
 pub mod Written
 pub mod Reasons
+pub mod Refused
 pub mod GivesVerdict
 pub mod Front
 pub mod Begun

@@ -16,6 +16,7 @@ mod loader;
 mod loading;
 mod purpose;
 mod reader;
+mod records;
 mod so_far;
 mod stream;
 
@@ -27,5 +28,6 @@ pub use fault::{SrecFault, SrecKind};
 pub use load_end::LoadEnd;
 pub use loader::Loader;
 pub use reader::read_srec;
+pub use records::read_records;
 pub use stream::read_image;
 pub use writer::write_srec;

@@ -46,7 +46,7 @@ fn image_at_end(loader: Loader) -> Result<Image, LoadEnd>
 
 /// The image that the text of a source writes, at most `max` bytes; one more is taken to find out that there are too
 /// many. A fault of the text is told once the source was read to its end. The text is not kept.
-#[tactic(auto, using(m88_base::proofs::Laws::calls_more, m88_base::proofs::Calls::calls_none))]
+#[tactic(auto, using(m88_base::proofs::Laws::calls_more, m88_base::proofs::Laws::calls_none))]
 pub fn read_image<S: Source>(alloc: Global, source: &mut S, max: usize) -> Result<Image, LoadEnd>
     requires { max < 2 ^ 31 }
     ensures ok { IfOk result (λ image. ReadsText (S.left source.old) (S.left source.new) max

@@ -11,12 +11,10 @@ ghost use Rattle.m88_trace.specs.Inside.Sheets.{AreDue, AreMade, CanAdd, CanWait
 ghost use Rattle.m88_trace.specs.Lines.{access_text, accesses_text, datum_by, head_text, written_text};
 ghost use Rattle.m88_trace.specs.declared.doing.Doing.TheVariants as doings;
 
-use crate::parts::{
-    push_begun, push_head, push_line, push_line_end, push_open, push_output, word_digits,
-};
+use crate::parts::{push_begun, push_head, push_line, push_line_end, push_open, push_output};
 use crate::upcoming::Upcoming;
 use crate::waiting::Waiting;
-use m88_base::NoMemory;
+use m88_base::{NoMemory, word_digits};
 use m88_board::Board;
 use m88_event::End;
 use m88_isa::{Access, Accesses, Effect, datum, merge};

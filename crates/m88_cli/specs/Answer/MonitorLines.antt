@@ -65,8 +65,7 @@ text_of_any (Some i) = instr_text i
 
 -- the line of an issue: the address, and the instruction there
 unfoldable pub issue_line : ℕ → Option Instr → List ℕ
-issue_line address instruction =
-    codes "issue " ++ hex8 address ++ codes " " ++ text_of_any instruction ++ line_end
+issue_line address instruction = codes "issue " ++ hex8 address ++ codes " " ++ text_of_any instruction ++ line_end
 
 -- what an event did, to the end of the line. Of an issue and of an output the address is told, and the instruction
 -- that is there; of a fault the number of its record; and the end of the program as the report tells it.

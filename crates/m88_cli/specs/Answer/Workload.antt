@@ -58,8 +58,7 @@ drawn_statement number n =
 
 -- the source of so many statements: a line for each, which is the text of its instruction
 unfoldable pub workload_source : ℕ → ℕ → List ℕ
-workload_source number count =
-    text_of_lines (map (λ n. instr_text (drawn_statement number n)) (range_with_len 0 count))
+workload_source number count = text_of_lines (map (λ n. instr_text (drawn_statement number n)) (range_with_len 0 count))
 
 -- the letter of a draw: `i` where it is even, `r` where it is odd
 abbrev pub drawn_letter : ℕ → Letter

@@ -1,19 +1,11 @@
 -- An input as the code keeps it.
-use Rattle.std.specs.Prelude.{ℕ, ◌≡◌, ◌≤◌, List, [], Option, Result, Ok, Err, length}
-use Rattle.m88_base.specs.Image.{ProgramImage}
-use Rattle.m88_base.specs.Refusal.{Refusal}
-use Rattle.m88_srec.specs.Accepted.{IsAccepted, whole_of}
+use Rattle.std.specs.Prelude.{ℕ, ◌≡◌, ◌≤◌, List, [], Option, length}
+use Rattle.m88_srec.specs.Refused.{AreRecordsOf}
 use Rattle.m88_cli.specs.Calls.{GivesInput}
 use Rattle.m88_cli.specs.Command.{Command, InputKind, no_input, record_text}
 use Rattle.m88_cli.specs.Limits.{most_input}
-use Rattle.m88_cli.specs.Loading.{IsRefusedRecords}
 use Rattle.m88_cli.specs.declared.input.Input.{Input}
 use Rattle.m88_cli.specs.declared.input.Input.TheVariants.{Nothing, Text, Records}
-
--- as S-records the text writes the image, or is refused so
-abbrev pub AreRecordsOf : Result ProgramImage Refusal → List ℕ → Type 0
-AreRecordsOf (Ok image) text = IsAccepted text (whole_of image)
-AreRecordsOf (Err refusal) text = IsRefusedRecords text refusal
 
 -- it was made of these bytes
 abbrev pub IsMadeOf : Input → List ℕ → Type 0

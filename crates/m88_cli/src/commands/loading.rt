@@ -1,7 +1,7 @@
 //! What `dis` makes of S-records.
 ghost use Rattle.std.specs.Prelude.{ℕ, IfOk, List};
+ghost use Rattle.m88_srec.specs.Refused.{AreRecordsOf};
 ghost use Rattle.m88_cli.specs.Command.{dis};
-ghost use Rattle.m88_cli.specs.Inside.Inputs.{AreRecordsOf};
 ghost use Rattle.m88_cli.specs.Inside.Reply.{Replies};
 
 use crate::reply::{Reply, accept, refuse};

@@ -1,8 +1,8 @@
 //! `run` and `exec`: a run on the board, and its report.
 ghost use Rattle.std.specs.Prelude.{ℕ, ◌≡◌, ◌≤◌, ◌∷◌, List, codes, length, true};
 ghost use Rattle.m88_event.specs.declared.outcome.Outcome.{Outcome as OutcomeValue};
+ghost use Rattle.m88_srec.specs.Refused.{AreRecordsOf};
 ghost use Rattle.m88_cli.specs.Command.{AreBounded, IsFit, Spells, command_of, exec, run, settings_in};
-ghost use Rattle.m88_cli.specs.Inside.Inputs.{AreRecordsOf};
 ghost use Rattle.m88_cli.specs.Inside.Reading.{ReadsFit};
 ghost use Rattle.m88_cli.specs.Inside.Reply.{AnswersShown};
 ghost use Rattle.m88_cli.specs.Inside.Running.{Reports, RunsImage};

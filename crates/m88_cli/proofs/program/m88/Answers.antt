@@ -3,7 +3,7 @@ use Rattle.std.proofs.Common.{◌≡◌, Err, ap, sym, ◌∙◌, subst, ℕ, �
 use Rattle.std.specs.Prelude.{◌≢◌, MatchBool}
 use Rattle.std.proofs.KnownBytes.{Consumes-whole}
 use Rattle.std.specs.Io.KnownBytes.{Consumes, IsAtEnd}
-use Rattle.m88_base.proofs.Laws.{answered, not_part, not_whole, only_refused, same_input}
+use Rattle.m88_base.proofs.Laws.{answered, not_part, not_whole, only_refused}
 use Rattle.m88_base.specs.Outside.{AppendsPart, TakesExactly}
 use Rattle.m88_base.specs.Refusal.{refusal_line, Refusal}
 use Rattle.m88_base.specs.Status.{WritesNothing, Answers, IsOfReading}
@@ -34,12 +34,17 @@ only_memory status e =
 refusal_some : (r : Refusal) → 0 < length (refusal_line r)
 refusal_some r = omega arith
 
+-- what a source gave to its end is the input that it had
+given_all : (before after : Option (List ℕ)) (input given : List ℕ) → before ≡ Some input
+    → Consumes before after given × IsAtEnd after → given ≡ input
+given_all before after input given had gives =
+    subst (λ left. IfSome left (λ all. given ≡ all)) had (Consumes-whole before after given (λ all. given ≡ all) gives.0 gives.1 refl)
+
 -- a command was given one input: what its source had
 by_reading : (reads : Bool) (before after : Option (List ℕ)) (input given : List ℕ)
     → MatchBool reads ((before ≡ Some input) × (length input ≤ most_input)) (input ≡ [])
     → MatchBool reads (Consumes before after given × IsAtEnd after) (given ≡ []) → given ≡ input
-by_reading true before after input given holds gives =
-    subst (λ left. IfSome left (λ had. given ≡ had)) holds.0 (Consumes-whole before after given (λ had. given ≡ had) gives.0 gives.1 refl)
+by_reading true before after input given holds gives = given_all before after input given holds.0 gives
 by_reading false before after input given holds gives = gives ∙ sym holds
 
 -- no more was taken from a source than the input that it had
@@ -77,11 +82,11 @@ refused_is_read _ input r refused = refl
 
 -- an input that a command refuses is what the source gave it
 given_whole : (command : Command) (before after : Option (List ℕ)) (input given : List ℕ) (r : Refusal) → Refuses command input r
-    → before ≡ Some input → after ≡ Some [] → GivesInput command before after given → given ≡ input
-given_whole command before after input given r refused had left gives =
+    → before ≡ Some input → GivesInput command before after given → given ≡ input
+given_whole command before after input given r refused had gives =
     let read = refused_is_read (kind_of command) input r refused in
     let gave = subst (λ reads. MatchBool reads (Consumes before after given × IsAtEnd after) (given ≡ [])) read gives in
-    same_input before after input given had left gave.0
+    given_all before after input given had gave
 
 -- a reply to what a command was given, where command and input are known
 abbrev RepliesToGiven : Command → Option (List ℕ) → Option (List ℕ) → Reply → Type 0
@@ -123,23 +128,23 @@ shows_refused Memory some none = absurd none
 shows_refused _ some none = absurd (some tt)
 
 pub returns-in_default-clause-refusal : goal.returns-in_default-clause-refusal
-returns-in_default-clause-refusal g c = λ command input refusal spelled refused had left whole.
+returns-in_default-clause-refusal g c = λ command input refusal spelled refused had whole.
     absurd (c.in_default.ensures.only command spelled)
 
 pub returns-in_default-clause-complete : goal.returns-in_default-clause-complete
-returns-in_default-clause-complete g c = λ command input spelled holds sound unfailing.
+returns-in_default-clause-complete g c = λ command spelled input holds sound unfailing.
     absurd (c.in_default.ensures.only command spelled)
 
 pub returns-in-Err-clause-refusal : goal.returns-in-Err-clause-refusal
-returns-in-Err-clause-refusal g c = λ command input refusal spelled refused had left whole.
+returns-in-Err-clause-refusal g c = λ command input refusal spelled refused had whole.
     absurd (not_whole _ (refusal_line refusal) (refusal_some refusal) whole)
 
 pub returns-in-Ok-clause-refusal : goal.returns-in-Ok-clause-refusal
-returns-in-Ok-clause-refusal g c = λ command input refusal spelled refused had left whole.
+returns-in-Ok-clause-refusal g c = λ command input refusal spelled refused had whole.
     let ok = c.in-Ok.ensures.ok in
     let same : command_of c.in-Some.command ≡ command = c.in-Some.ensures.only command spelled in
     let replies = reply_given command (command_of c.in-Some.command) _ _ input c.in-Ok.reply same
-    (λ given. given_whole command _ _ input given refusal refused had left) (ok.0, ok.1, ok.2) in
+    (λ given. given_whole command _ _ input given refusal refused had) (ok.0, ok.1, ok.2) in
     let text = refused_line command input _ refusal refused (by_accepted c.in-Ok.reply.accepted command input _ replies) in
     only_refused c.write_to.result c.write_to.ensures.written
     (λ e. let done = c.write_to.ensures.done e in refused_not_accepted command input refusal refused (rw done.0 at replies).accepted)
@@ -188,14 +193,14 @@ returns-in-Ok-clause-part g c = λ e.
     }
 
 pub returns-in-Err-clause-complete : goal.returns-in-Err-clause-complete
-returns-in-Err-clause-complete g c = λ command input spelled holds sound unfailing.
+returns-in-Err-clause-complete g c = λ command spelled input holds sound unfailing.
     let same : command_of c.in-Some.command ≡ command = c.in-Some.ensures.only command spelled in
     unanswered (Accepts command input) command (g.S.Source.left c.args.source.now) (g.S.Source.left c.reply_from.new.source)
     input c.in-Err.status holds c.in-Err.ensures.status (λ e. sound (c.reply_from.ensures.reading.fault (c.in-Err.is ∙ ap Err e)))
     (λ e. c.reply_from.ensures.reading.too_long (c.in-Err.is ∙ ap Err e)) (λ e. c.in-Err.ensures.memory (ap reads_input same ∙ e))
 
 pub returns-in-Ok-clause-complete : goal.returns-in-Ok-clause-complete
-returns-in-Ok-clause-complete g c = λ command input spelled holds sound unfailing.
+returns-in-Ok-clause-complete g c = λ command spelled input holds sound unfailing.
     let ok = c.in-Ok.ensures.ok in
     let same : command_of c.in-Some.command ≡ command = c.in-Some.ensures.only command spelled in
     let replies = reply_given command (command_of c.in-Some.command) (g.S.Source.left c.args.source.now)

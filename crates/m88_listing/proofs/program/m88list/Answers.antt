@@ -1,9 +1,11 @@
 -- What is written is the reply, whole or a part of it.
+use Rattle.std.proofs.Common.{rules}
 use Rattle.m88_base.proofs.Laws.{answers_input, answers_nothing, answers_reply, none_of_reading}
 use Rattle.m88_asm.proofs.Laws.{not_linked, one_program_verdict}
 use Rattle.m88_asm.specs.Sources.{IsProgramSource}
 use Rattle.m88_listing.specs.Answer.{ListsRefused}
 use Rattle.m88_listing.specs.Listing.{ListsAccepted}
+use Rattle.m88_listing.specs.Inside.Replies.{ListsAs}
 use Rattle.m88_listing.proofs.Numbering.{each_line_stands_once}
 use Rattle.m88_listing.proofs.Showing.{each_shows_its_image}
 use Rattle.m88_listing.proofs.Verdict.{list_verdicts, one_text, refused_plainly}
@@ -21,14 +23,18 @@ returns-in-Err-clause-answers g c =
 
 pub returns-in-Ok-clause-answers : goal.returns-in-Ok-clause-answers
 returns-in-Ok-clause-answers g c =
+    let ok = c.in-Ok.ensures.ok in
+    let replies : ListsAs ok.0 c.in-Ok.reply = search rules in
     answers_reply g.S.Source.left g.K.Sink.held g.K.Sink.calls ListsAccepted ListsRefused _ _ _ _ c.in-Ok.reply _
-    c.in-Ok.ensures.ok c.write_to.ensures.written c.write_to.ensures.done c.write_to.ensures.refused
+    (ok.0, ok.1, replies) c.write_to.ensures.written c.write_to.ensures.done c.write_to.ensures.refused
     list_verdicts c.write_to.ensures.calls c.write_to.ensures.part
 
 pub returns-in-Ok-clause-complete : goal.returns-in-Ok-clause-complete
-returns-in-Ok-clause-complete g c = λ bytes none had unbroken unfailing.
+returns-in-Ok-clause-complete g c = λ none bytes had unbroken unfailing.
+    let ok = c.in-Ok.ensures.ok in
+    let replies : ListsAs ok.0 c.in-Ok.reply = search rules in
     answers_input g.S.Source.left g.K.Sink.held g.K.Sink.calls ListsAccepted ListsRefused _ _ _ _ c.in-Ok.reply _
-    c.in-Ok.ensures.ok c.write_to.ensures.written c.write_to.ensures.done c.write_to.ensures.refused
+    (ok.0, ok.1, replies) c.write_to.ensures.written c.write_to.ensures.done c.write_to.ensures.refused
     (IsProgramSource bytes) bytes had.0 (λ told. told.accepted)
     (λ told accepted. not_linked 0 bytes told.refusal accepted (refused_plainly bytes told.refusal told.rows told.refused))
     (λ e. unfailing (c.write_to.ensures.sink_fault e))

@@ -1,7 +1,9 @@
 -- What is written is the reply, whole or a part of it.
+use Rattle.std.proofs.Common.{rules}
 use Rattle.m88_base.proofs.Laws.{answers_input, answers_nothing, answers_reply, none_of_reading}
 use Rattle.m88_serving.specs.Served.{IsServed, IsTurnedDown}
 use Rattle.m88_serving.specs.Verdict.{IsTakenCase}
+use Rattle.m88_serving.specs.Inside.Replies.{RepliesServed}
 use Rattle.m88_serving.proofs.Laws.{each_input_has_one_verdict}
 use Rattle.m88_serving.proofs.Dmts.{each_dmt_is_of_an_access}
 use Rattle.m88_serving.proofs.Emptied.{each_leaves_none_waiting}
@@ -20,14 +22,18 @@ returns-in-Err-clause-answers g c =
 
 pub returns-in-Ok-clause-answers : goal.returns-in-Ok-clause-answers
 returns-in-Ok-clause-answers g c =
+    let ok = c.in-Ok.ensures.ok in
+    let replies : RepliesServed ok.0 c.in-Ok.reply = search rules in
     answers_reply g.S.Source.left g.K.Sink.held g.K.Sink.calls IsServed IsTurnedDown _ _ _ _ c.in-Ok.reply _
-    c.in-Ok.ensures.ok c.write_to.ensures.written c.write_to.ensures.done c.write_to.ensures.refused
+    (ok.0, ok.1, replies) c.write_to.ensures.written c.write_to.ensures.done c.write_to.ensures.refused
     serve_verdicts c.write_to.ensures.calls c.write_to.ensures.part
 
 pub returns-in-Ok-clause-complete : goal.returns-in-Ok-clause-complete
-returns-in-Ok-clause-complete g c = λ bytes none had unbroken unfailing.
+returns-in-Ok-clause-complete g c = λ none bytes had unbroken unfailing.
+    let ok = c.in-Ok.ensures.ok in
+    let replies : RepliesServed ok.0 c.in-Ok.reply = search rules in
     answers_input g.S.Source.left g.K.Sink.held g.K.Sink.calls IsServed IsTurnedDown _ _ _ _ c.in-Ok.reply _
-    c.in-Ok.ensures.ok c.write_to.ensures.written c.write_to.ensures.done c.write_to.ensures.refused
+    (ok.0, ok.1, replies) c.write_to.ensures.written c.write_to.ensures.done c.write_to.ensures.refused
     (IsTakenCase bytes) bytes had.0
     (λ served. record { told = served.told; accepted = served.accepted })
     (λ down accepted. not_both bytes accepted.told down.fault accepted.accepted down.refused)

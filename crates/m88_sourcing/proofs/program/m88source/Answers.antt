@@ -34,11 +34,11 @@ returns-in-Ok-clause-answers g c =
     (source_verdicts words known c.in-Some.ensures.only) c.write_to.ensures.calls c.write_to.ensures.part
 
 pub returns-in_default-clause-complete : goal.returns-in_default-clause-complete
-returns-in_default-clause-complete g c = λ request bytes asks holds sound unfailing.
+returns-in_default-clause-complete g c = λ request asks bytes holds sound unfailing.
     absurd (c.in_default.ensures.only request asks)
 
 pub returns-in-Ok-clause-complete : goal.returns-in-Ok-clause-complete
-returns-in-Ok-clause-complete g c = λ request bytes asks holds sound unfailing.
+returns-in-Ok-clause-complete g c = λ request asks bytes holds sound unfailing.
     let words = words_of_call c.args.words.now in
     let known = asked c.in-Some.request in
     let ok = c.in-Ok.ensures.ok in

@@ -2,8 +2,8 @@
 use Rattle.std.proofs.Common.{arith, subst}
 use Rattle.m88_base.proofs.Laws.{few_parts}
 use Rattle.m88_srec.specs.Accepted.{whole_of}
+use Rattle.m88_srec.specs.Refused.{AreRecordsOf}
 use Rattle.m88_cli.specs.Command.{dis}
-use Rattle.m88_cli.specs.Inside.Inputs.{AreRecordsOf}
 use Rattle.m88_cli.proofs.Refusing.{refused_reply}
 use Rattle.m88_cli.proofs.commands.loading.list_records.Goals as goal
 

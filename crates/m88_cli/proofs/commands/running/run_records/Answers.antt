@@ -1,7 +1,7 @@
 -- The image that the records write holds their program, and the report of its run answers them.
 use Rattle.std.proofs.Common.{subst}
+use Rattle.m88_srec.specs.Refused.{AreRecordsOf}
 use Rattle.m88_cli.specs.Command.{exec, settings_in}
-use Rattle.m88_cli.specs.Inside.Inputs.{AreRecordsOf}
 use Rattle.m88_cli.proofs.Refusing.{refused_shown}
 use Rattle.m88_cli.proofs.Reporting.{run_answers, runs_records}
 use Rattle.m88_cli.proofs.commands.running.run_records.Goals as goal

@@ -1,6 +1,6 @@
 -- Each of the four bytes has two of the digits.
 use Rattle.std.proofs.Common.{arith, refl, ◌≡◌, ◌%◌, ◌/◌}
-use Rattle.m88_trace.proofs.parts.word_digits.Goals as goal
+use Rattle.m88_base.proofs.hex.word_digits.Goals as goal
 
 pub returns : goal.returns
 returns c =

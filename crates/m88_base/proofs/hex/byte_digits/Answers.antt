@@ -2,8 +2,8 @@
 use Rattle.std.proofs.Common.{ℕ, zero, suc, Bool, true, T, [], ◌∷◌, ◌≡◌, ◌<◌, ◌+◌, ◌-◌, ◌*◌, ◌/◌, ◌%◌, ◌&&◌, eqb, eqb→eq, get_or, ap₂, arith, eq-zero-or-pos, inl, inr}
 use lib.Ieee.Fits.{and_l, and_r}
 use Rattle.m88_base.specs.Hex.{hex_digit}
-use Rattle.m88_trace.specs.declared.parts.TheConstants.{PAIRS}
-use Rattle.m88_trace.proofs.parts.byte_digits.Goals as goal
+use Rattle.m88_base.specs.declared.hex.TheConstants.{PAIRS}
+use Rattle.m88_base.proofs.hex.byte_digits.Goals as goal
 
 -- so it is of the bytes below one, by looking at each
 abbrev are_pairs : ℕ → Bool
