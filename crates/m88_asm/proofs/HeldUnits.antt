@@ -14,7 +14,7 @@ use Rattle.m88_link.specs.Layout.{Layout}
 use Rattle.m88_link.specs.Linked.{IsLinked, start_address}
 use Rattle.m88_asm.specs.Accepted.{IsAcceptedUnit}
 use Rattle.m88_asm.specs.Images.{IsUnitImage, IsUnitInstruction, placed_instruction, unit_byte}
-use Rattle.m88_asm.specs.Inside.Held.{HoldsUnit}
+use Rattle.m88_asm.specs.Held.{HoldsUnit}
 use Rattle.m88_asm.specs.Sources.{HoldsOfProgram, IsProgramSource, IsSourceImage, IsSourceProgram}
 use Rattle.m88_asm.specs.Units.{unit_layout}
 use Rattle.m88_asm.proofs.Instructions.{bytes_law, instructions_law}

@@ -6,7 +6,7 @@ use Rattle.std.proofs.lemmas.List.Elements.{All-nil, All-cons}
 use Rattle.m88_base.specs.Image.{ProgramImage}
 use Rattle.m88_isa.specs.ImageProgram.{IsProgramOf}
 use Rattle.m88_isa.specs.Machine.{Program}
-use Rattle.m88_asm.specs.Inside.Held.{HoldEach, HoldsUnit}
+use Rattle.m88_asm.specs.Held.{HoldEach, HoldsUnit}
 use Rattle.m88_asm.specs.Several.{AreSourcePrograms, IsPlacedProgram, PlacedSource}
 use Rattle.m88_asm.proofs.HeldUnits.{accepted_source, held_with}
 use Rattle.m88_asm.proofs.UnitPrograms.{one_source_program}

@@ -3,4 +3,3 @@ pub mod Answered
 pub mod Drafts
 pub mod Exports
 pub mod Firsts
-pub mod Held

@@ -11,4 +11,5 @@ pub mod Images
 pub mod Sources
 pub mod Several
 pub mod LinkedTexts
+pub mod Held
 pub mod Inside

@@ -6,6 +6,7 @@ pub mod Triple
 pub mod Slot
 pub mod Name
 pub mod Cut
+pub mod Words
 pub mod Lines
 pub mod Parted
 pub mod Pieces

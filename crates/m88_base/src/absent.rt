@@ -6,6 +6,9 @@ use arrayvec::ArrayVec;
 /// The bytes of a page.
 pub const PAGE_BYTES: u32 = 4096;
 
+/// The words of a page.
+pub const PAGE_WORDS: u32 = PAGE_BYTES / 4;
+
 /// How many pages there are.
 pub const PAGE_COUNT: usize = 1 << 20;
 

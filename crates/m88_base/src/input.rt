@@ -1,5 +1,5 @@
 //! What is made of the whole input of a program.
-ghost use Rattle.std.specs.Prelude.{◌≡◌, ◌≤◌, ℕ, IfErr, IfOk, List, Ok, length};
+ghost use Rattle.std.specs.Prelude.{◌≤◌, ℕ, IfErr, IfOk, List, Ok, length};
 ghost use Rattle.std.specs.Fn.{FnOnceReturnsAt};
 ghost use Rattle.m88_base.specs.Outside.{GivesAll};
 ghost use Rattle.m88_base.specs.Reading.{ReadsSource, most_input};

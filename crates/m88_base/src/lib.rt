@@ -33,6 +33,7 @@ mod name;
 mod numerals;
 mod parting;
 mod refused;
+mod words;
 
 // The image of a program.
 mod block;
@@ -41,7 +42,7 @@ mod image;
 mod segment;
 mod segments;
 
-pub use absent::{Absent, PAGE_BYTES, PAGE_COUNT};
+pub use absent::{Absent, PAGE_BYTES, PAGE_COUNT, PAGE_WORDS};
 pub use cut::split_at_byte;
 pub use digit::digit_value;
 pub use failing::{Failed, NoMemory};
@@ -56,14 +57,16 @@ pub use mem_source::MemSource;
 pub use name::{Name, continues_name};
 pub use numerals::{decimal_in, number_in, push_decimal};
 pub use parting::{Parted, Unparted, parted_at};
+pub use pieces::is_failing;
 pub use reading::{MOST_INPUT, ReadEnd, read_all};
 pub use refused::{Refusal, push_refused};
 pub use reg::Reg;
-pub use reply::Reply;
+pub use reply::{Reply, accept, refuse};
 pub use sink::Sink;
 pub use slot::Slot;
 pub use source::Source;
 pub use status::Status;
 pub use std_edge::{StdSink, StdSource};
 pub use triple::{NO_TRIPLE, Triple};
+pub use words::first_word;
 pub use writing::{SinkFault, write_all};

@@ -5,7 +5,7 @@ ghost use Rattle.m88_base.specs.Calls.{CallsWithin};
 ghost use Rattle.m88_base.specs.Causes.{Rose};
 ghost use Rattle.m88_base.specs.Outside.{TakesExactly, TakesAtMost};
 
-use crate::failing::Failed;
+use crate::failing::{Failed, NoMemory};
 use crate::source::Source;
 use std::alloc::{AllocError, Global};
 use thiserror::Error;
@@ -34,6 +34,17 @@ impl From<AllocError> for ReadEnd {
     ghost from_gives = { λ _ end. end ≡ read_end.Memory };
 
     fn from(_: AllocError) -> ReadEnd {
+        ReadEnd::Memory
+    }
+}
+
+impl From<NoMemory> for ReadEnd {
+    ghost use Rattle.std.specs.Prelude.{◌≡◌};
+    ghost use Rattle.m88_base.specs.declared.reading.ReadEnd.TheVariants as read_end;
+
+    ghost from_gives = { λ _ end. end ≡ read_end.Memory };
+
+    fn from(_: NoMemory) -> ReadEnd {
         ReadEnd::Memory
     }
 }

@@ -1,14 +1,18 @@
 //! What a program answers to its input, handed to its sink.
-ghost use Rattle.std.specs.Prelude.{◌≡◌, false, length, true};
+ghost use Rattle.std.specs.Prelude.{◌≡◌, IfOk, false, length, true};
 ghost use Rattle.std.specs.Io.KnownBytes.{Appends};
 ghost use Rattle.m88_base.specs.Calls.{CallsWithin};
 ghost use Rattle.m88_base.specs.Causes.{Rose};
 ghost use Rattle.m88_base.specs.Outside.{AppendsPart};
+ghost use Rattle.m88_base.specs.Reply.{IsRefusalOf};
 ghost use Rattle.m88_base.specs.Status.{IsAnswered, WritesNothing};
 
+use crate::failing::NoMemory;
+use crate::refused::Refusal;
 use crate::sink::Sink;
 use crate::status::Status;
 use crate::writing::write_all;
+use std::alloc::Global;
 
 /// What is written for an input, and whether the input is accepted.
 #[derive(Debug, Drop)]
@@ -43,4 +47,25 @@ impl Reply {
             Status::Refused
         }
     }
+}
+
+/// The reply that accepts an input, and what it says.
+pub fn accept(text: Vec<u8>) -> Reply
+    ensures { result ≡ record { accepted = true; text = text } }
+{
+    Reply {
+        accepted: true,
+        text,
+    }
+}
+
+/// The reply that refuses an input with its line.
+pub fn refuse(alloc: Global, refusal: &Refusal) -> Result<Reply, NoMemory>
+    ensures { IfOk result (IsRefusalOf refusal.now) }
+{
+    let text = refusal.text(alloc)?;
+    Ok(Reply {
+        accepted: false,
+        text,
+    })
 }

@@ -22,12 +22,12 @@ use Rattle.m88_isa.specs.declared.planned.Access.{Access}
 use Rattle.m88_isa.specs.declared.planned.Accesses.{Accesses}
 use Rattle.m88_isa.specs.declared.planned.Effect.{Effect}
 use Rattle.m88_iunit.specs.Pointers.{Pointers}
-use Rattle.m88_mem.specs.DataBus.{MemoryView, absent_of, bus_of, ready_of}
+use Rattle.m88_mem.specs.DataBus.{MemoryView, StaysReady, absent_of, bus_of, ready_of}
 use Rattle.m88_scoreboard.specs.Registers.{Registers, waiting_of}
 use Rattle.m88_board.proofs.Steps.{issued}
 use Rattle.m88_board.proofs.Stopping.{no_end}
 use Rattle.m88_board.specs.Board.{BoardView, cells_in, completed_of, is_idle_board}
-use Rattle.m88_board.specs.Kept.{AreReady, HasReadyPage, IsKept, SlotsAgree, StaysReady}
+use Rattle.m88_board.specs.Kept.{AreReady, HasReadyPage, IsKept, SlotsAgree}
 use Rattle.m88_board.specs.Inside.Events.{Does}
 use Rattle.m88_board.specs.Inside.Turns.{IsAdvanced}
 use Rattle.m88_board.proofs.Carry.{carried}

@@ -40,10 +40,6 @@ HasReadyPage ready a = a.write ≡ true → ready (page_number a.addr) ≡ true
 abbrev pub AreReady : (ℕ → Bool) → List Access → Type 0
 AreReady ready = All (HasReadyPage ready)
 
--- a page that is ready stays so
-abbrev pub StaysReady : MemoryView → MemoryView → Type 0
-StaysReady old new = (page : ℕ) → ready_of old page ≡ true → ready_of new page ≡ true
-
 -- the parts agree on the pending transactions: there are at most three, each one that the data unit can make, of which
 -- no two load one register; the registers that they load wait, and no others; and each store has its page ready
 pub record PartsAgree (pending : List Access) (file : Registers) (memory : MemoryView) : Type 0 where

@@ -1,6 +1,6 @@
 //! Data accesses: their pages made ready, issued to the data unit, and answered.
 
-ghost use Rattle.std.specs.Prelude.{◌≡◌, ◌+◌, ◌≤◌, ◌++◌, List, [], ◌∷◌, Some, true, false, length, slice_get, IfSome, OnErr, OnOk};
+ghost use Rattle.std.specs.Prelude.{◌≡◌, ◌+◌, ◌≤◌, ◌++◌, List, [], ◌∷◌, Some, false, length, slice_get, IfSome, OnErr, OnOk};
 ghost use Rattle.m88_base.specs.Pages.{page_number};
 ghost use Rattle.m88_base.specs.Reg.{number_of, with_register};
 ghost use Rattle.m88_base.specs.RegisterSet.{with_member};
@@ -10,10 +10,10 @@ ghost use Rattle.m88_isa.specs.Machine.{with_written};
 ghost use Rattle.m88_isa.specs.Memory.{IsWordAccess};
 ghost use Rattle.m88_isa.specs.declared.planned.Access.{Access as AccessValue};
 ghost use Rattle.m88_dunit.specs.Pending.{CanIssue};
-ghost use Rattle.m88_mem.specs.DataBus.{absent_of, bus_of, ready_of};
+ghost use Rattle.m88_mem.specs.DataBus.{GainsReady, absent_of, bus_of, ready_of};
 ghost use Rattle.m88_scoreboard.specs.Registers.{waiting_of};
 ghost use Rattle.m88_board.specs.Kept.{AreReady, HasReadyPage, PartsAgree};
-ghost use Rattle.m88_board.specs.Inside.Accesses.{AnswersOldest, GainsReady, PutsIn};
+ghost use Rattle.m88_board.specs.Inside.Accesses.{AnswersOldest, PutsIn};
 ghost use Rattle.m88_board.specs.Inside.Turns.{StoreOnOnePage};
 
 use m88_base::{NoMemory, Reg};

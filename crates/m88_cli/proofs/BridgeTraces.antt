@@ -1,7 +1,7 @@
 -- What `trace` writes of a source is accepted by `check` behind that source and a line `trace`.
 use Rattle.std.proofs.Common.{◌≡◌, ℕ, ◌+◌, List, Err, length, refl}
 use Rattle.m88_base.specs.Lines.{lines_of}
-use Rattle.m88_isa.specs.Inside.Letters.{begun_with}
+use Rattle.m88_isa.specs.Letters.{begun_with}
 use Rattle.m88_isa.specs.Mnemonic.{text_of}
 use Rattle.m88_parse.proofs.Laws.{ended_parted, ended_unit}
 use Rattle.m88_parse.specs.Inside.Directives.{all_directives, directive_text}

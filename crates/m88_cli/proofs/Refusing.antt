@@ -2,10 +2,11 @@
 use Rattle.std.proofs.Common.{◌≡◌, List, [], ℕ, Option, Result, Ok, Err, inl, refl}
 use Rattle.std.specs.Prelude.{IfOk}
 use Rattle.m88_base.specs.Refusal.{Refusal}
+use Rattle.m88_base.specs.Reply.{IsRefusalOf}
 use Rattle.m88_base.specs.declared.failing.NoMemory.{NoMemory}
 use Rattle.m88_cli.specs.Answer.{Refuses}
 use Rattle.m88_cli.specs.Command.{Command}
-use Rattle.m88_cli.specs.Inside.Reply.{AnswersShown, IsRefusalOf, Replies}
+use Rattle.m88_cli.specs.Inside.Reply.{AnswersShown, Replies}
 use Rattle.m88_board.proofs.Laws.{saw_none}
 use Rattle.m88_board.specs.Glances.{Saw}
 use Rattle.m88_board.specs.declared.glance.Glance.{Glance}

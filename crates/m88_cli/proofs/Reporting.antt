@@ -14,7 +14,7 @@ use Rattle.m88_board.specs.Glances.{Saw, glances_along}
 use Rattle.m88_board.specs.declared.glance.Glance.{Glance}
 use Rattle.m88_report.specs.Report.{report_of}
 use Rattle.m88_asm.proofs.Laws.{Held, accepted_source, held_by}
-use Rattle.m88_asm.specs.Inside.Held.{HoldsUnit}
+use Rattle.m88_asm.specs.Held.{HoldsUnit}
 use Rattle.m88_asm.specs.Sources.{IsSourceProgram}
 use Rattle.m88_srec.specs.Accepted.{IsAccepted, whole_of}
 use Rattle.m88_isa.proofs.Laws.{program_of_image}

@@ -1,6 +1,5 @@
 -- What a reader of the promises must believe.
 pub mod Limits
-pub mod Words
 pub mod Numbers
 pub mod Pages
 pub mod Settings

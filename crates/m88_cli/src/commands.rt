@@ -3,18 +3,17 @@ ghost use Rattle.std.specs.Prelude.{ℕ, [], ◌≡◌, IfSome, List, MatchOptio
 ghost use Rattle.m88_cli.specs.Command.{Command as Choice, IsFit, Spells, command_of, kind_of, shows_boards};
 ghost use Rattle.m88_cli.specs.Inside.Inputs.{IsKeptAs, IsMadeOf};
 ghost use Rattle.m88_cli.specs.Inside.Reply.{AnswersShown};
-ghost use Rattle.m88_cli.specs.Words.{texts};
+ghost use Rattle.m88_base.specs.Words.{texts};
 
 use crate::forms::{Form, Reads};
-use crate::grammar::{first_word, no_more};
+use crate::grammar::no_more;
 use crate::input::Input;
 use crate::limits::SESSION_LIMIT;
-use crate::reply::Reply;
 use crate::settings::Settings;
 use assembly::{assemble_source, build_source};
 use emulation::{emulate_source, emulation_command};
 use loading::list_records;
-use m88_base::{Absent, NoMemory};
+use m88_base::{Absent, NoMemory, Reply, first_word};
 use m88_board::Watch;
 use m88_event::Schedule;
 use m88_tasks::ShareSchedule;

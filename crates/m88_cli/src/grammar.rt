@@ -1,25 +1,17 @@
 //! The grammar that the words of commands have in common.
-ghost use Rattle.std.specs.Prelude.{◌≡◌, ◌≤◌, ◌∷◌, [], IfSome, None, OnSome, Some, false};
+ghost use Rattle.std.specs.Prelude.{◌≡◌, ◌≤◌, [], None, OnSome, Some, false};
 ghost use Rattle.m88_cli.specs.Command.{AreBounded, settings_in, settings_of};
 ghost use Rattle.m88_cli.specs.Inside.Reading.{ReadsValue, ReadsFit};
 ghost use Rattle.m88_cli.specs.Limits.{most_limit};
 ghost use Rattle.m88_cli.specs.Settings.{SayOpening, SayPlain, SaySettings, mode_words};
-ghost use Rattle.m88_cli.specs.Words.{texts};
+ghost use Rattle.m88_base.specs.Words.{texts};
 
 use crate::limits::MOST_LIMIT;
 use crate::numbers::decimal_number;
 use crate::pages::absent_of;
 use crate::settings::Settings;
+use m88_base::first_word;
 use m88_event::Schedule;
-
-/// The first word, and those behind it.
-pub fn first_word<'a>(words: &'a [String]) -> Option<(&'a str, &'a [String])>
-    ensures found { IfSome result (λ parts. texts words.now ≡ parts.0.now ∷ texts parts.1.now) }
-    ensures none { result ≡ None → texts words.now ≡ [] }
-{
-    let (first, rest) = words.split_first()?;
-    Some((first.as_str(), rest))
-}
 
 /// Nothing, where there are no more words.
 pub fn no_more(words: &[String]) -> Option<()>

@@ -16,7 +16,6 @@ mod settings;
 // The top call, from its words to its answer.
 mod input;
 mod program;
-mod reply;
 
 // The script of the monitor.
 mod script;

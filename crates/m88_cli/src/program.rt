@@ -15,12 +15,11 @@ ghost use Rattle.m88_cli.specs.Answer.Runs.{WorkloadsAreAccepted};
 ghost use Rattle.m88_cli.specs.Script.{HasNoScript, IsScriptOf};
 ghost use Rattle.m88_cli.specs.Status.{ShowsNothing};
 ghost use Rattle.m88_cli.specs.Watching.{FrontOfAccepted, Shown, ShownIfAccepted};
-ghost use Rattle.m88_cli.specs.Words.{texts};
+ghost use Rattle.m88_base.specs.Words.{texts};
 
 use crate::commands::{Command, reply_to, spelled};
 use crate::input::input_of;
-use crate::reply::Reply;
-use m88_base::{Sink, Source, Status};
+use m88_base::{Reply, Sink, Source, Status};
 use m88_board::Watch;
 use std::alloc::Global;
 

@@ -6,10 +6,10 @@ ghost use Rattle.m88_isa.specs.Bus.{bus_after_all};
 ghost use Rattle.m88_isa.specs.Memory.{access_of};
 ghost use Rattle.m88_isa.specs.Word.{IsWord};
 ghost use Rattle.m88_isa.specs.declared.instr.Instr.{Instr as InstrValue};
-ghost use Rattle.m88_mem.specs.DataBus.{absent_of, bus_of, ready_of};
+ghost use Rattle.m88_mem.specs.DataBus.{GainsReady, absent_of, bus_of, ready_of};
 ghost use Rattle.m88_emul.specs.Aid.{Aid, aid_of, with_all};
 ghost use Rattle.m88_emul.specs.Extended.{byte_seen};
-ghost use Rattle.m88_emul.specs.Emulating.{IsAided, IsOnlyPrepared};
+ghost use Rattle.m88_emul.specs.Emulating.{IsAided};
 ghost use Rattle.m88_emul.specs.Inside.Places.{AreOpen, AreSupplied, HasWords};
 ghost use Rattle.m88_emul.specs.Inside.Tasks.{aid_by, stored_places, task_places};
 ghost use Rattle.m88_emul.specs.Timeline.{has_place_in};
@@ -17,9 +17,10 @@ ghost use Rattle.m88_emul.specs.declared.emulator.Emulated.{Emulated as Emulated
 
 use crate::bytes::{half, put_double, put_half, put_word, word as word_at};
 use crate::places;
-use crate::task::{Task, register_after, task_of};
+use crate::task::{Task, task_of};
 use m88_base::{NoMemory, Reg};
 use m88_codec::decode;
+use m88_isa::register_after;
 use m88_mem::Memory;
 use std::alloc::Global;
 
@@ -50,7 +51,7 @@ pub fn emulate(
         → aid_of i vector regs.old (byte_seen (bus_of memory.old)) ≡ None) }
     ensures unchanged { IfOk result (λ e. e ≡ EmulatedValue.Not
         → (regs.new ≡ regs.old) × (memory.new ≡ memory.old)) }
-    ensures err { OnErr result ((regs.new ≡ regs.old) × IsOnlyPrepared memory.old memory.new) }
+    ensures err { OnErr result ((regs.new ≡ regs.old) × GainsReady memory.old memory.new) }
 {
     let _ = alloc;
     let Some(task) = task_in(vector, word, regs) else {
@@ -68,7 +69,7 @@ pub(crate) fn emulate_task(
 ) -> Result<(), NoMemory>
     ensures done { OnOk result (IsAided (aid_by task.now (byte_seen (bus_of memory.old))) regs.old
         regs.new memory.old memory.new) }
-    ensures err { OnErr result ((regs.new ≡ regs.old) × IsOnlyPrepared memory.old memory.new) }
+    ensures err { OnErr result ((regs.new ≡ regs.old) × GainsReady memory.old memory.new) }
 {
     prepare(task, memory)?;
     supply(task, memory);
@@ -92,7 +93,7 @@ pub(crate) fn task_in(vector: u16, word: u32, regs: &[u32; 32]) -> Option<Task>
 /// Makes the pages ready to which a task stores.
 #[tactic(auto, unfolding(crate::specs::Timeline::has_place_in))]
 fn prepare(task: &Task, memory: &mut Memory) -> Result<(), NoMemory>
-    ensures only { IsOnlyPrepared memory.old memory.new }
+    ensures only { GainsReady memory.old memory.new }
     ensures ready { OnOk result ((page : ℕ) → has_place_in (stored_places task.now) page ≡ true
         → ready_of memory.new page ≡ true) }
 {

@@ -1,9 +1,8 @@
 //! The pages of bytes that software touches, at most eight from a place on, so that they lie in at most two pages.
 
 ghost use Rattle.std.specs.Prelude.{ℕ, ◌≡◌, ◌≤◌, true, OnOk};
-ghost use Rattle.m88_mem.specs.DataBus.{ready_of};
+ghost use Rattle.m88_mem.specs.DataBus.{GainsReady, ready_of};
 ghost use Rattle.m88_emul.specs.Aid.{places_from};
-ghost use Rattle.m88_emul.specs.Emulating.{IsOnlyPrepared};
 ghost use Rattle.m88_emul.specs.Inside.Places.{AreSupplied};
 ghost use Rattle.m88_emul.specs.Timeline.{has_place_in};
 
@@ -13,7 +12,7 @@ use m88_mem::{Memory, PAGE_BYTES};
 /// Makes the pages of so many bytes ready.
 pub(crate) fn prepare(memory: &mut Memory, place: u32, count: u32) -> Result<(), NoMemory>
     requires { (1 ≤ count) × (count ≤ 8) }
-    ensures only { IsOnlyPrepared memory.old memory.new }
+    ensures only { GainsReady memory.old memory.new }
     ensures ready { OnOk result ((page : ℕ) → has_place_in (places_from place count) page ≡ true
         → ready_of memory.new page ≡ true) }
 {

@@ -1,18 +1,18 @@
 //! What software is to do for an instruction.
 
 ghost use Rattle.std.specs.Prelude.{ℕ, ◌≡◌, option_map};
-ghost use Rattle.m88_isa.specs.Address.{address};
 ghost use Rattle.m88_isa.specs.Effect.{register};
 ghost use Rattle.m88_isa.specs.Instr.{IsValid};
-ghost use Rattle.m88_isa.specs.Memory.{size_of};
-ghost use Rattle.m88_isa.specs.Operands.{register_after};
 ghost use Rattle.m88_isa.specs.Vector.{bad_division, misaligned};
 ghost use Rattle.m88_emul.specs.Aid.{aid_for, aid_of, divides, for_vector, quotient_of, raises_with, unaligned};
 ghost use Rattle.m88_emul.specs.Inside.Tasks.{aid_by};
 
 use crate::quotient::quotient;
 use m88_base::Reg;
-use m88_isa::{BAD_DIVISION, ImmOp, Instr, MISALIGNED, MemOp, Plan, RegOp, plan};
+use m88_isa::{
+    BAD_DIVISION, ImmOp, Instr, MISALIGNED, MemOp, Plan, RegOp, indexed_address, plan,
+    register_after, size_of,
+};
 
 /// What software is to do, before memory is read: places are byte addresses, and a value is a whole register.
 #[derive(Clone, Copy, Debug)]
@@ -81,7 +81,7 @@ fn task_for(instr: &Instr, vector: u16, regs: &[u32; 32]) -> Option<Task>
                 vector,
                 op,
                 d,
-                address(register(regs, s1), imm as u32, 1),
+                indexed_address(register(regs, s1), imm as u32, 1),
                 regs,
             )
         }
@@ -94,7 +94,7 @@ fn task_for(instr: &Instr, vector: u16, regs: &[u32; 32]) -> Option<Task>
             ..
         } => {
             let scale = if scaled { size_of(op) } else { 1 };
-            let place = address(register(regs, s1), register(regs, s2), scale);
+            let place = indexed_address(register(regs, s1), register(regs, s2), scale);
             access(vector, op, d, place, regs)
         }
         _ => None,
@@ -153,30 +153,4 @@ fn register(regs: &[u32; 32], r: Reg) -> u32
     ensures { result ≡ register regs.now r }
 {
     if r == Reg::ZERO { 0 } else { regs[r.index()] }
-}
-
-/// The register after one; after r31 it is r0.
-pub(crate) fn register_after(d: Reg) -> Reg
-    ensures { result ≡ register_after d }
-{
-    Reg::from_low_bits(d.number() + 1)
-}
-
-/// A base and a scaled index.
-fn address(base: u32, index: u32, scale: u32) -> u32
-    ensures { result ≡ address base index scale }
-{
-    base.wrapping_add(index.wrapping_mul(scale))
-}
-
-/// The bytes of the datum of a memory mnemonic.
-fn size_of(op: MemOp) -> u32
-    ensures { result ≡ size_of op }
-{
-    match op {
-        MemOp::LdD | MemOp::StD => 8,
-        MemOp::Xmem | MemOp::Ld | MemOp::St => 4,
-        MemOp::LdHu | MemOp::LdH | MemOp::StH => 2,
-        MemOp::XmemBu | MemOp::LdBu | MemOp::LdB | MemOp::StB => 1,
-    }
 }

@@ -5,7 +5,7 @@ use Rattle.std.specs.Str.{bytes_eq}
 use Rattle.std.proofs.Common.{sym, ap, ◌∙◌}
 use Rattle.std.proofs.lemmas.Slice.Eq.{bytes_eq-Decides}
 use Rattle.m88_isa.specs.Mnemonic.{text_of}
-use Rattle.m88_isa.specs.Inside.Letters.{begun_with, first_letter, mnemonic_of}
+use Rattle.m88_isa.specs.Letters.{begun_with, first_letter, mnemonic_of}
 use Rattle.m88_isa.specs.declared.mnemonic.Mnemonic.{Mnemonic}
 use Rattle.m88_isa.specs.declared.mnemonic.Mnemonic.TheVariants as mnemonic
 

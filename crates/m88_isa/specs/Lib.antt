@@ -4,6 +4,7 @@
 pub mod Instr
 pub mod Names
 pub mod Mnemonic
+pub mod Letters
 pub mod Word
 -- how the instruction unit treats them
 pub mod Operands

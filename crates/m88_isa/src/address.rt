@@ -13,7 +13,7 @@ pub(crate) fn word_address(place: u32) -> u32
 }
 
 /// A base and a scaled index, modulo 2^32.
-pub(crate) fn address(base: u32, index: u32, scale: u32) -> u32
+pub fn indexed_address(base: u32, index: u32, scale: u32) -> u32
     ensures { result ≡ address base index scale }
 {
     base.wrapping_add(index.wrapping_mul(scale))

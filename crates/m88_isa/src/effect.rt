@@ -27,7 +27,7 @@ ghost use Rattle.m88_isa.specs.Operands.{access_count_of, writes_of};
 ghost use Rattle.m88_isa.specs.Inside.Outline.{IsOutline, with_stored};
 ghost use Rattle.m88_isa.specs.declared.planned.Inputs.{Inputs as InputsValue};
 
-use crate::address::{address, scale_of, word_address};
+use crate::address::{indexed_address, scale_of, word_address};
 use crate::compute::{immediate, registers};
 use crate::fields::{bit_field, find_bit, offset_in, width_in, width_of};
 use crate::flow::{bit_is, branches, checks, class_in, flows, traps_if, words_away};
@@ -157,7 +157,7 @@ fn effect(instr: &Instr, regs: &[u32; 32], x: Inputs) -> Outline
             computes(d, computed, x)
         }
         Instr::MemImm { op, d, s1, imm } => {
-            let place = address(register(regs, s1), imm as u32, 1);
+            let place = indexed_address(register(regs, s1), imm as u32, 1);
             accesses(op, d, place, x)
         }
         Instr::MemReg {
@@ -176,7 +176,7 @@ fn effect(instr: &Instr, regs: &[u32; 32], x: Inputs) -> Outline
             indexed(op, d, scaled, usr, x)
         }
         Instr::Lda { size, d, s1, s2 } => {
-            let place = address(register(regs, s1), register(regs, s2), scale_of(size));
+            let place = indexed_address(register(regs, s1), register(regs, s2), scale_of(size));
             gives(d, place, x)
         }
         Instr::BitLit {
@@ -260,7 +260,7 @@ fn indexed(op: MemOp, d: Reg, scaled: bool, usr: bool, x: Inputs) -> Outline
         Outline::Raise(PRIVILEGE)
     } else {
         let scale = if scaled { size_of(op) } else { 1 };
-        accesses(op, d, address(x.s1, x.s2, scale), x)
+        accesses(op, d, indexed_address(x.s1, x.s2, scale), x)
     }
 }
 

@@ -79,7 +79,7 @@ pub(crate) fn checks(s: u32, t: u32, x: Inputs) -> Outline
 }
 
 /// The byte address a signed count of words away.
-pub(crate) fn words_away(pc: u32, words: i32) -> u32
+pub fn words_away(pc: u32, words: i32) -> u32
     ensures { result ≡ words_away pc words }
 {
     pc.wrapping_add(words.cast_unsigned().wrapping_mul(4))

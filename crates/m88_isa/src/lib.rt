@@ -27,15 +27,17 @@ mod triples;
 // what a program asks of the monitor
 mod monitor;
 
+pub use address::indexed_address;
 pub use effect::{outline, plan};
+pub use flow::words_away;
 pub use instr::{BitOp, ImmOp, Instr, LdaSize, MemOp, RegOp, is_valid};
 pub use lanes::{datum, merge};
-pub use memory::{accesses_at, no_accesses};
+pub use memory::{accesses_at, no_accesses, size_of};
 pub use mnemonic::Mnemonic;
 pub use monitor::{
     EXIT_SERVICE, MONITOR_TRAP, OUTPUT_REGISTER, PUT_SERVICE, SERVICE_REGISTER, Service,
 };
-pub use operands::{access_count, is_flow, uses, waits_for_empty, writes};
+pub use operands::{access_count, is_flow, register_after, uses, waits_for_empty, writes};
 pub use planned::{Access, Accesses, Effect, Outline, Plan};
 pub use triples::{access_in, finished, is_valid_triple, triple_of};
 pub use vector::{

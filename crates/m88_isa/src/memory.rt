@@ -52,7 +52,7 @@ pub fn accesses_at(op: MemOp, d: Reg, place: u32, regs: &[u32; 32]) -> Accesses
 }
 
 /// The bytes of a datum, of which its address is a multiple or is rounded down to one.
-pub(crate) fn size_of(op: MemOp) -> u32
+pub fn size_of(op: MemOp) -> u32
     ensures value { result ≡ size_of op }
     ensures least { 1 ≤ result }
 {

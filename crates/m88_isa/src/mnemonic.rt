@@ -2,7 +2,7 @@
 
 ghost use Rattle.std.specs.Prelude.{◌≡◌, IfSome, Some, find};
 ghost use Rattle.std.specs.Str.{bytes_eq};
-ghost use Rattle.m88_isa.specs.Inside.Letters.{begun_with};
+ghost use Rattle.m88_isa.specs.Letters.{begun_with};
 ghost use Rattle.m88_isa.specs.Mnemonic.{text_of};
 ghost use Rattle.m88_isa.specs.declared.mnemonic.Mnemonic.{Mnemonic as AnyMnemonic};
 
@@ -305,7 +305,7 @@ const MNEMONICS: [Mnemonic; 91] = [
 ];
 
 /// The mnemonics that begin with a letter: a part of all of them.
-#[tactic(auto, unfolding(crate::specs::Inside::Letters::begun_with, crate::specs::Mnemonic::text_of))]
+#[tactic(auto, unfolding(crate::specs::Letters::begun_with, crate::specs::Mnemonic::text_of))]
 fn begun_with(letter: u8) -> &'static [Mnemonic]
     ensures { result.now ≡ begun_with letter }
 {

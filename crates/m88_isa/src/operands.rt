@@ -206,7 +206,7 @@ pub(crate) fn link_register() -> Reg
 }
 
 /// The register after another; after r31 it is r0.
-pub(crate) fn register_after(d: Reg) -> Reg
+pub fn register_after(d: Reg) -> Reg
     ensures { result ≡ register_after d }
 {
     Reg::from_low_bits(d.number() + 1)

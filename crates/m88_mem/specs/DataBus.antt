@@ -1,6 +1,6 @@
 -- Memory over two buses ("Data Unit"; "Instruction Unit"): the instruction bus fetches the image as it was linked, and
 -- the data bus starts with the same bytes and zeros elsewhere. Pages and their absence are for the data bus alone.
-use Rattle.std.specs.Prelude.{ℕ, Bool, false, ◌/◌, ◌%◌, List, Option, Some, None, is_some, slice_get, slice_index_or, unwrap_or}
+use Rattle.std.specs.Prelude.{ℕ, ◌≡◌, Bool, false, true, ◌/◌, ◌%◌, List, Option, Some, None, is_some, slice_get, slice_index_or, unwrap_or}
 use Rattle.m88_base.specs.Image.{ProgramImage, byte_at}
 use Rattle.m88_base.specs.Pages.{page_number}
 use Rattle.m88_isa.specs.Bus.{in_words}
@@ -40,3 +40,14 @@ ready_of m page = is_some (slice_index_or m.pages page None)
 -- a page is absent for the data bus
 unfoldable pub absent_of : MemoryView → ℕ → Bool
 absent_of m page = slice_index_or m.absent page false
+
+-- a page that is ready stays so
+abbrev pub StaysReady : MemoryView → MemoryView → Type 0
+StaysReady old new = (page : ℕ) → ready_of old page ≡ true → ready_of new page ≡ true
+
+-- pages may have become ready, and nothing else of memory changed
+pub record GainsReady (old new : MemoryView) : Type 0 where
+  pub image : new.image ≡ old.image
+  pub bus : bus_of new ≡ bus_of old
+  pub absent : absent_of new ≡ absent_of old
+  pub ready : StaysReady old new

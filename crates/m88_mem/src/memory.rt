@@ -26,13 +26,10 @@ use crate::lines::{KeptLines, Line, line_of};
 use crate::marks::PageMarks;
 use crate::places::{fetched, image_page, image_word, page_word};
 use crate::reads::{KeptReads, Read};
-use m88_base::{Absent, Image, NoMemory, PAGE_BYTES};
+use m88_base::{Absent, Image, NoMemory, PAGE_BYTES, PAGE_WORDS};
 use m88_isa::Instr;
 use std::alloc::Global;
 use std::marker::Model;
-
-/// The words of a page.
-const PAGE_WORDS: u32 = PAGE_BYTES / 4;
 
 /// The image as it was linked, the data bus over it in a frame for each page that is ready, and a bit for each page,
 /// set where it is absent.

@@ -15,12 +15,9 @@ use crate::original::original_page;
 use crate::paged::PageEnd;
 use crate::store::PageStore;
 use crate::word::word_at;
-use m88_base::{Image, NoMemory, PAGE_BYTES, PAGE_COUNT};
+use m88_base::{Image, NoMemory, PAGE_BYTES, PAGE_COUNT, PAGE_WORDS};
 use std::alloc::Global;
 use std::collections::BTreeSet;
-
-/// The words of a page.
-const PAGE_WORDS: u32 = PAGE_BYTES / 4;
 
 /// The words of the pages that a store holds that differ from those of memory at first, in order of address.
 pub(crate) fn changed_words<P: PageStore>(

@@ -1,6 +1,6 @@
 //! A store of pages in memory that fails where it is told to.
 
-ghost use Rattle.std.specs.Prelude.{ℕ, ◌≡◌, ◌↔◌, Some, IsTrue, IfOk, IfErr, IfSome, Contains, length};
+ghost use Rattle.std.specs.Prelude.{ℕ, ◌≡◌, Some, IfOk, IfErr, IfSome, length};
 ghost use Rattle.std.specs.BTreeMap.{get as get_page};
 ghost use Rattle.std.specs.FinMap.{empty, get};
 ghost use Rattle.std.specs.Ordering.{nat_cmp};
@@ -10,7 +10,7 @@ ghost use Rattle.m88_pager.specs.Store.{Finds, IsPageOf, IsPageRead, IsPageWritt
 ghost use Rattle.m88_pager.specs.declared.store.StoreError.TheVariants.{Failed};
 
 use crate::store::{PageStore, StoreError};
-use m88_base::NoMemory;
+use m88_base::{NoMemory, is_failing};
 use std::alloc::Global;
 use std::collections::BTreeMap;
 use std::marker::Model;
@@ -145,11 +145,4 @@ fn give(pages: &BTreeMap<u32, Vec<u8>>, page: u32, into: &mut [u8]) -> bool
         }
         None => false,
     }
-}
-
-/// Whether a call's number, from 0, is among those that fail.
-fn is_failing(failing: &[u32], call: u64) -> bool
-    ensures { IsTrue result ↔ Contains failing.now call }
-{
-    failing.iter().any(|number| u64::from(*number) == call)
 }

@@ -1,6 +1,6 @@
 //! Directives, operations, labels and heads of modules.
 ghost use Rattle.std.specs.Prelude.{◌≡◌};
-ghost use Rattle.m88_isa.specs.Inside.Letters.{mnemonic_of};
+ghost use Rattle.m88_isa.specs.Letters.{mnemonic_of};
 ghost use Rattle.m88_parse.specs.declared.directive.Directive.TheVariants.{Set};
 ghost use Rattle.m88_parse.specs.Fault.{Gives};
 ghost use Rattle.m88_parse.specs.Inside.Drafts.{PutsRow};

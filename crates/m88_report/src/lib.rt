@@ -6,5 +6,6 @@ mod writer;
 
 pub use lines::{
     push_carry, push_count, push_end, push_named, push_record, push_registers, push_word,
+    push_words,
 };
 pub use writer::report;

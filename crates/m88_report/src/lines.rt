@@ -116,6 +116,16 @@ pub fn push_word(text: &mut Vec<u8>, address: u32, word: u32) -> Result<(), Allo
     Ok(())
 }
 
+/// Appends a line for each word of memory, with its address.
+pub fn push_words(text: &mut Vec<u8>, words: &[(u32, u32)]) -> Result<(), AllocError>
+    ensures { OnOk result (text.new.items ≡ text.old.items ++ flat_map word_line words.now) }
+{
+    for (address, word) in words {
+        push_word(text, *address, *word)?;
+    }
+    Ok(())
+}
+
 /// Appends the lines of a data fault with its number, from 1.
 #[tactic(auto, unfolding(crate::specs::Report::fault_lines))]
 pub(crate) fn push_fault(text: &mut Vec<u8>, number: u64, fault: &Record) -> Result<(), AllocError>

@@ -2,10 +2,10 @@
 
 ghost use Rattle.std.specs.Prelude.{◌≡◌, ◌++◌, map, Some, IfOk, OnOk};
 ghost use Rattle.std.specs.List.{enumerate_from, flat_map};
-ghost use Rattle.m88_report.specs.Report.{fault_lines, report_of, word_line};
+ghost use Rattle.m88_report.specs.Report.{fault_lines, report_of};
 
 use crate::lines::{
-    push_carry, push_count, push_end, push_fault, push_output, push_registers, push_word,
+    push_carry, push_count, push_end, push_fault, push_output, push_registers, push_words,
 };
 use m88_base::NoMemory;
 use m88_event::{Outcome, Record};
@@ -40,16 +40,6 @@ fn known(values: &[u32; 32]) -> [Option<u32>; 32]
     ensures { result ≡ map Some values.now }
 {
     values.map(Some)
-}
-
-/// Appends the lines of the words that changed, each with its address.
-fn push_words(text: &mut Vec<u8>, words: &[(u32, u32)]) -> Result<(), AllocError>
-    ensures { OnOk result (text.new.items ≡ text.old.items ++ flat_map word_line words.now) }
-{
-    for (address, word) in words {
-        push_word(text, *address, *word)?;
-    }
-    Ok(())
 }
 
 /// Appends the lines of the data faults, numbered from 1.

@@ -14,10 +14,11 @@ use crate::judging::record_fault;
 use crate::naming::{Naming, name_all};
 use crate::reading::{Unread, told_in};
 use crate::service::{Service, serve_all};
-use crate::text::{push_registers, push_slots, push_words};
+use crate::text::{push_registers, push_slots};
 use m88_base::{Absent, Image, NoMemory, Reply, push_refused};
 use m88_event::Record;
 use m88_mem::Memory;
+use m88_report::push_words;
 use m88_scoreboard::RegFile;
 use std::alloc::Global;
 

@@ -1,14 +1,12 @@
 //! The lines that are written.
 ghost use Rattle.std.specs.Prelude.{◌≡◌, ◌≤◌, ◌<◌, ◌%◌, ◌++◌, OnOk};
-ghost use Rattle.std.specs.List.{flat_map};
 ghost use Rattle.m88_base.specs.RegisterSet.{registers_in};
 ghost use Rattle.m88_isa.specs.Lanes.{IsEnable};
-ghost use Rattle.m88_report.specs.Report.{word_line};
 ghost use Rattle.m88_serving.specs.Served.{access_line, first_touched, load_text, mark, first_byte_of, awaited_text, registers_below, size_text, slots_text, store_text, there_text};
 
 use m88_base::{push_decimal, push_hex8};
 use m88_isa::Access;
-use m88_report::{push_named, push_word};
+use m88_report::push_named;
 use std::alloc::AllocError;
 
 /// Appends the line of an access of a transaction by its place, with the datum of a load.
@@ -163,16 +161,6 @@ fn is_member(set: u32, r: u32) -> bool
     ensures { result ≡ registers_in set r }
 {
     r != 0 && set / (1 << r) % 2 == 1
-}
-
-/// Appends a line for each word of data memory, with its address.
-pub(crate) fn push_words(text: &mut Vec<u8>, words: &[(u32, u32)]) -> Result<(), AllocError>
-    ensures { OnOk result (text.new.items ≡ text.old.items ++ flat_map word_line words.now) }
-{
-    for (address, word) in words {
-        push_word(text, *address, *word)?;
-    }
-    Ok(())
 }
 
 /// Appends the line of SSBR, and that of the two slots at which execution goes on.

@@ -3,9 +3,10 @@ use Rattle.std.proofs.Common.{◌≡◌, ◌∙◌, ℕ, ◌+◌, suc, ◌<◌, 
 use Rattle.std.specs.declared.alloc.Global.{Global}
 use Rattle.std.specs.Prelude.{◌⊎◌, String, codes, string_bytes}
 use Rattle.std.proofs.lemmas.List.{drop_all, length-map}
+use Rattle.m88_base.specs.Words.{texts}
 use Rattle.m88_parse.specs.Language.Tokens.{IsDecimal, IsHexadecimal}
 use Rattle.m88_parse.specs.Language.Bytes.{are_digits}
-use Rattle.m88_sourcing.specs.Request.{AreAddressWords, Asks, IsAddressWord, Request, SayEntries, words_of_call}
+use Rattle.m88_sourcing.specs.Request.{AreAddressWords, Asks, IsAddressWord, Request, SayEntries}
 use Rattle.m88_sourcing.specs.Request.Asks.{binary, records}
 use Rattle.m88_sourcing.specs.Request.AreAddressWords.{address, no_address}
 
@@ -80,20 +81,20 @@ at_is_no_number word a e is = no_number word a e is.0
 
 -- the words from a place on
 pub rest_of : (words : List (String Global)) (i : ℕ) (word : String Global) → i < length words
-    → word ≡ get_or words i word → words_of_call (drop i words) ≡ string_bytes word ∷ words_of_call (drop (i + 1) words)
+    → word ≡ get_or words i word → texts (drop i words) ≡ string_bytes word ∷ texts (drop (i + 1) words)
 rest_of words i word low is =
     let one : suc i ≡ i + 1 = omega arith in
-    ap words_of_call (drop-cons words i word low)
-    ∙ ap (λ (w : String Global). string_bytes w ∷ words_of_call (drop (suc i) words)) (sym is)
-    ∙ ap (λ (n : ℕ). string_bytes word ∷ words_of_call (drop n words)) one
+    ap texts (drop-cons words i word low)
+    ∙ ap (λ (w : String Global). string_bytes w ∷ texts (drop (suc i) words)) (sym is)
+    ∙ ap (λ (n : ℕ). string_bytes word ∷ texts (drop n words)) one
 
-pub none_of : (words : List (String Global)) (i : ℕ) → length words ≤ i → words_of_call (drop i words) ≡ []
-none_of words i all = ap words_of_call (drop_all i words all)
+pub none_of : (words : List (String Global)) (i : ℕ) → length words ≤ i → texts (drop i words) ≡ []
+none_of words i all = ap texts (drop_all i words all)
 
-pub too_many : (words : List (String Global)) (wanted : List ℕ) → 64 < length words → SayEntries (words_of_call words) wanted → ⊥
+pub too_many : (words : List (String Global)) (wanted : List ℕ) → 64 < length words → SayEntries (texts words) wanted → ⊥
 too_many words wanted many say =
-    let as_words = as_many (words_of_call words) wanted say.0 in
-    let same : length (words_of_call words) ≡ length words = length-map words string_bytes in
+    let as_words = as_many (texts words) wanted say.0 in
+    let same : length (texts words) ≡ length words = length-map words string_bytes in
     let few = say.1 in
     absurd (omega (arith, as_words, same, few, many))
 

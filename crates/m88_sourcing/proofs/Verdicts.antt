@@ -1,5 +1,5 @@
 -- An input is accepted, or refused for one reason, never both; it is one image and has one text.
-use Rattle.std.proofs.Common.{◌≡◌, ◌⊎◌, ◌∙◌, ℕ, ◌+◌, ◌-◌, ◌<◌, ◌^◌, Bool, true, false, List, [], None, Option, Some, ap, arith, inl, inr, length, refl, get_or, slice_get, subst, sym, IfSome}
+use Rattle.std.proofs.Common.{◌≡◌, ◌∙◌, ℕ, ◌+◌, ◌-◌, ◌<◌, ◌^◌, Bool, true, false, List, [], None, Option, Some, ap, arith, inl, inr, length, refl, get_or, slice_get, subst, sym, IfSome}
 use Rattle.std.specs.Prelude.{MatchBool}
 use Rattle.std.proofs.lemmas.Bool.{cases_lt}
 use Rattle.std.proofs.lemmas.Option.{slice_get-get_or}
@@ -10,7 +10,7 @@ use Rattle.m88_base.specs.Reply.{AnswersAs}
 use Rattle.m88_base.specs.Placed.{byte_in}
 use Rattle.m88_base.specs.Refusal.{Refusal, refusal_line}
 use Rattle.m88_base.specs.declared.reply.Reply.{Reply}
-use Rattle.m88_srec.proofs.Laws.{one_record_verdict, one_records_refusal, verdict_takes}
+use Rattle.m88_srec.proofs.Laws.{one_records_refusal, verdict_takes}
 use Rattle.m88_srec.specs.Accepted.{Whole, whole_of}
 use Rattle.m88_sourcing.specs.Answer.{AsAsked, Sources, SourcesAccepted, SourcesRefused}
 use Rattle.m88_sourcing.specs.Inputs.{IsAcceptedIn, IsImageIn, IsRefusedIn, binary_refusal}

@@ -1,6 +1,5 @@
 -- The words of the program: `[ENTRY..]`, or `at ADDRESS [ENTRY..]`.
-use Rattle.std.specs.declared.alloc.Global.{Global}
-use Rattle.std.specs.Prelude.{ℕ, ◌<◌, ◌≤◌, ◌^◌, List, [], ◌∷◌, Option, Some, None, String, codes, length, map, string_bytes}
+use Rattle.std.specs.Prelude.{ℕ, ◌<◌, ◌≤◌, ◌^◌, List, [], ◌∷◌, Option, Some, None, codes, length}
 use Rattle.m88_parse.specs.Language.Tokens.{IsNumeral}
 
 -- what is asked for: the address at which the bytes of a binary begin, none where S-records are read; and the addresses
@@ -35,7 +34,3 @@ pub data Asks : List (List ℕ) → Request → Type 0 where
   binary : {word : List ℕ} {words : List (List ℕ)} {at : ℕ} {entries : List ℕ} → IsAddressWord word at
       → SayEntries words entries
       → Asks (codes "at" ∷ word ∷ words) (record { at = Some at; entries = entries })
-
--- the words of a call as texts
-abbrev pub words_of_call : List (String Global) → List (List ℕ)
-words_of_call words = map string_bytes words

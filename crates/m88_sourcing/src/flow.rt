@@ -1,24 +1,8 @@
 //! Where an instruction leads, without a look at registers.
 ghost use Rattle.std.specs.Prelude.{◌≡◌, ℕ, IsTrue, None};
-ghost use Rattle.m88_isa.specs.Flow.{words_away};
 ghost use Rattle.m88_sourcing.specs.Flow.{asks_for_end, goes_on_to, calls_monitor, slot, branch_target};
 
-use m88_isa::{ImmOp, Instr};
-
-/// The vector of the monitor's trap.
-const MONITOR_TRAP: u16 = 496;
-
-/// The register that has the number of a service, and the number of the service that ends the program.
-const SERVICE_REGISTER: u32 = 9;
-
-const EXIT_SERVICE: u16 = 0x63;
-
-/// The address a signed count of words away.
-fn words_away(pc: u32, words: i32) -> u32
-    ensures { result ≡ words_away pc words }
-{
-    pc.wrapping_add(words.cast_unsigned().wrapping_mul(4))
-}
+use m88_isa::{EXIT_SERVICE, ImmOp, Instr, MONITOR_TRAP, SERVICE_REGISTER, words_away};
 
 /// Where the program goes on behind an instruction, or comes back to.
 pub(crate) fn goes_on_to(pc: u32, instr: &Instr) -> Option<u32>
@@ -61,7 +45,7 @@ pub(crate) fn slot(pc: u32, instr: &Instr) -> Option<u32>
 /// Whether it is a trap to the monitor that is always taken.
 pub(crate) fn calls_monitor(instr: &Instr) -> bool
     ensures value { result ≡ calls_monitor instr.now }
-    ensures plain { IsTrue result → (pc : ℕ) → branch_target pc instr.now ≡ None }
+    ensures no_branch { IsTrue result → (pc : ℕ) → branch_target pc instr.now ≡ None }
 {
     match *instr {
         Instr::TrapBit {
@@ -84,7 +68,7 @@ pub(crate) fn asks_for_end(instr: &Instr) -> bool
             d,
             s1,
             imm,
-        } => d.number() == SERVICE_REGISTER && (s1.number() == 0 && imm == EXIT_SERVICE),
+        } => d.index() == SERVICE_REGISTER && (s1.number() == 0 && u32::from(imm) == EXIT_SERVICE),
         _ => false,
     }
 }

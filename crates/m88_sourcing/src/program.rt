@@ -5,17 +5,18 @@ ghost use Rattle.m88_base.specs.OneVerdict.{HasOneFaultUnless};
 ghost use Rattle.m88_base.specs.Outside.{GivesAll};
 ghost use Rattle.m88_base.specs.Reading.{ReadsSource};
 ghost use Rattle.m88_base.specs.Status.{IsOfReading};
+ghost use Rattle.m88_base.specs.Words.{texts};
 ghost use Rattle.m88_sourcing.specs.Answer.{AsAsked, Sources, SourcesAccepted, SourcesRefused};
 ghost use Rattle.m88_sourcing.specs.Inputs.{IsAcceptedIn, IsRefusedIn};
 ghost use Rattle.m88_sourcing.specs.Inside.Asked.{asked};
 ghost use Rattle.m88_sourcing.specs.Inside.Replies.{IsInputRead, SourcesAs};
 ghost use Rattle.m88_sourcing.specs.Laws.{EachBuildsBack, EachKeepsItsBranches, EachNamesItsTargets};
-ghost use Rattle.m88_sourcing.specs.Request.{Asks, Request as Asked, words_of_call};
+ghost use Rattle.m88_sourcing.specs.Request.{Asks, Request as Asked};
 
 use crate::input::read_input;
 use crate::request::{Request, asked_for};
 use crate::source::source_text;
-use m88_base::{Image, NoMemory, Refusal, Reply, Sink, Source, Status};
+use m88_base::{Image, NoMemory, Refusal, Reply, Sink, Source, Status, accept, refuse};
 use std::alloc::Global;
 
 /// The whole program between its words, a source and a sink. The words are `[ENTRY..]` where the source gives
@@ -30,7 +31,7 @@ pub fn m88source<S: Source, K: Sink>(
     sink: &mut K,
 ) -> Status
     // Words that ask for nothing, exactly. Then nothing is read.
-    ensures usage { UsageFor ((request : Asked) → ¬ Asks (words_of_call words.now) request)
+    ensures usage { UsageFor ((request : Asked) → ¬ Asks (texts words.now) request)
         source.old source.new result }
 
     // Whatever the answer is: at most two calls more are made of the source than an input may have bytes. A source
@@ -43,18 +44,18 @@ pub fn m88source<S: Source, K: Sink>(
     // either text, at least one byte short. No text took more calls than it has bytes. An input whose refusal stands
     // whole in the sink was refused.
     ensures answers { AnswersFor S.left K.held K.calls source.old source.new sink.old sink.new
-        (AsAsked (words_of_call words.now) SourcesAccepted)
-        (AsAsked (words_of_call words.now) SourcesRefused) result }
+        (AsAsked (texts words.now) SourcesAccepted)
+        (AsAsked (texts words.now) SourcesRefused) result }
 
     // Where the words ask for something and nothing failed, an input that is not too long is answered: Done if
     // it is accepted, Refused if it is not, or Memory.
-    ensures complete { (request : Asked) → Asks (words_of_call words.now) request
+    ensures complete { (request : Asked) → Asks (texts words.now) request
         → AnswersUnfailed S.faults K.faults source.old source.new sink.old sink.new
         (IsInputLeft (S.left source.old)) (IsAcceptedIn request.at) result }
 
     // Words ask for one thing. An input is accepted, or refused for one reason, never both; and it has one text.
-    ensures one_request { (a b : Asked) → Asks (words_of_call words.now) a
-        → Asks (words_of_call words.now) b → a ≡ b }
+    ensures one_request { (a b : Asked) → Asks (texts words.now) a
+        → Asks (texts words.now) b → a ≡ b }
     ensures one_verdict { (at : Option ℕ) (bytes : List ℕ)
         → HasOneFaultUnless (IsAcceptedIn at bytes) (IsRefusedIn at bytes) }
     ensures one_text { (request : Asked) (bytes a b : List ℕ) → Sources request bytes a
@@ -88,18 +89,9 @@ fn reply_to(
     match input {
         Ok(image) => {
             let text = source_text(alloc, image, request.entries.as_slice())?;
-            Ok(Reply {
-                accepted: true,
-                text,
-            })
+            Ok(accept(text))
         }
-        Err(refusal) => {
-            let text = refusal.text(alloc)?;
-            Ok(Reply {
-                accepted: false,
-                text,
-            })
-        }
+        Err(refusal) => refuse(alloc, refusal),
     }
 }
 

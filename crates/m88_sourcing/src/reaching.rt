@@ -57,7 +57,7 @@ fn push_other(
 }
 
 /// Where the program goes on behind an instruction at an address, none where it doesn't.
-fn lead(image: &Image, at: u32, instr: &Instr) -> Option<u32>
+fn next_of(image: &Image, at: u32, instr: &Instr) -> Option<u32>
     requires { HoldsInstruction image.now at instr.now }
     ensures has { (b : ℕ) → MayLeadTo image.now at b
         → (branch_target at instr.now ≡ Some b) ⊎ (result ≡ Some b) }
@@ -90,7 +90,7 @@ fn step(walk: &mut Walk, image: &Image, at: u32, bytes: &[u8]) -> Result<Option<
         return Ok(None);
     };
     push_if(&mut walk.heads, label)?;
-    let next = lead(image, at, &instr);
+    let next = next_of(image, at, &instr);
     push_other(&mut walk.slots, slot(at, &instr), next)?;
     Ok(next)
 }

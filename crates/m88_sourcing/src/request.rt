@@ -1,10 +1,11 @@
 //! What the words of the program ask for.
-ghost use Rattle.std.specs.Prelude.{[], ◌≡◌, ◌∷◌, ℕ, IfSome, List, MatchOption, None, Some, codes};
+ghost use Rattle.std.specs.Prelude.{◌≡◌, ◌∷◌, ℕ, IfSome, List, MatchOption, None, Some, codes};
+ghost use Rattle.m88_base.specs.Words.{texts};
 ghost use Rattle.m88_sourcing.specs.Inside.Asked.{asked};
-ghost use Rattle.m88_sourcing.specs.Request.{Asks, IsAddressWord, Request as Asked, SayEntries, words_of_call};
+ghost use Rattle.m88_sourcing.specs.Request.{Asks, IsAddressWord, Request as Asked, SayEntries};
 
 use arrayvec::ArrayVec;
-use m88_base::{decimal_in, number_in};
+use m88_base::{decimal_in, first_word, number_in};
 
 /// The most addresses at which code begins besides the start.
 const MOST_ENTRIES: usize = 64;
@@ -31,8 +32,8 @@ fn address(word: &[u8]) -> Option<u32>
 
 /// The addresses that words write, at most as many as may be given.
 fn entries(words: &[String]) -> Option<ArrayVec<u32, MOST_ENTRIES>>
-    ensures found { IfSome result (λ entries. SayEntries (words_of_call words.now) entries.items) }
-    ensures only { (wanted : List ℕ) → SayEntries (words_of_call words.now) wanted
+    ensures found { IfSome result (λ entries. SayEntries (texts words.now) entries.items) }
+    ensures only { (wanted : List ℕ) → SayEntries (texts words.now) wanted
         → MatchOption result ⊥ (λ entries. entries.items ≡ wanted) }
 {
     if words.len() > MOST_ENTRIES {
@@ -45,22 +46,12 @@ fn entries(words: &[String]) -> Option<ArrayVec<u32, MOST_ENTRIES>>
     Some(entries)
 }
 
-/// The first word, and those behind it.
-fn first_word(words: &[String]) -> Option<(&str, &[String])>
-    ensures found { IfSome result (λ parts. words_of_call words.now
-        ≡ parts.0.now ∷ words_of_call parts.1.now) }
-    ensures none { result ≡ None → words_of_call words.now ≡ [] }
-{
-    let (first, rest) = words.split_first()?;
-    Some((first.as_str(), rest))
-}
-
 /// The words behind `at`, where that is the first.
 fn behind_at(words: &[String]) -> Option<&[String]>
-    ensures some { IfSome result (λ rest. words_of_call words.now
-        ≡ codes "at" ∷ words_of_call rest.now) }
+    ensures some { IfSome result (λ rest. texts words.now
+        ≡ codes "at" ∷ texts rest.now) }
     ensures none { result ≡ None → (rest : List (List ℕ))
-        → words_of_call words.now ≡ codes "at" ∷ rest → ⊥ }
+        → texts words.now ≡ codes "at" ∷ rest → ⊥ }
 {
     let (first, rest) = first_word(words)?;
     if first == "at" { Some(rest) } else { None }
@@ -68,8 +59,8 @@ fn behind_at(words: &[String]) -> Option<&[String]>
 
 /// What the words behind `at` ask for.
 fn binary_request(words: &[String]) -> Option<Request>
-    ensures found { IfSome result (λ r. Asks (codes "at" ∷ words_of_call words.now) (asked r)) }
-    ensures only { (wanted : Asked) → Asks (codes "at" ∷ words_of_call words.now) wanted
+    ensures found { IfSome result (λ r. Asks (codes "at" ∷ texts words.now) (asked r)) }
+    ensures only { (wanted : Asked) → Asks (codes "at" ∷ texts words.now) wanted
         → MatchOption result ⊥ (λ r. asked r ≡ wanted) }
 {
     let (word, rest) = first_word(words)?;
@@ -84,8 +75,8 @@ fn binary_request(words: &[String]) -> Option<Request>
 /// What the words ask for: `[ENTRY..]` the source of S-records, and `at ADDRESS [ENTRY..]` that of a binary. None for
 /// words that ask for nothing.
 pub(crate) fn asked_for(words: &[String]) -> Option<Request>
-    ensures found { IfSome result (λ r. Asks (words_of_call words.now) (asked r)) }
-    ensures only { (wanted : Asked) → Asks (words_of_call words.now) wanted
+    ensures found { IfSome result (λ r. Asks (texts words.now) (asked r)) }
+    ensures only { (wanted : Asked) → Asks (texts words.now) wanted
         → MatchOption result ⊥ (λ r. asked r ≡ wanted) }
 {
     if let Some(rest) = behind_at(words) {

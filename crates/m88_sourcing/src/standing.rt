@@ -29,10 +29,7 @@ pub(crate) fn standing_in(at: u32, bytes: &[u8]) -> Option<Instr>
     if word == 0 {
         return None;
     }
-    match decode(word) {
-        Ok(instr) => Some(instr),
-        Err(_) => None,
-    }
+    decode(word).ok()
 }
 
 /// The instruction that stands at an address, whose word isn't 0.
@@ -59,7 +56,7 @@ pub(crate) fn bytes_on<'a>(image: &'a Image, at: u32, bytes: &'a [u8], to: u32) 
 pub(crate) fn is_exit(image: &Image, at: u32, instr: &Instr) -> bool
     requires { HoldsInstruction image.now at instr.now }
     ensures exit { IsTrue result ↔ IsExit image.now at }
-    ensures plain { IsTrue result → (pc : ℕ) → branch_target pc instr.now ≡ None }
+    ensures no_branch { IsTrue result → (pc : ℕ) → branch_target pc instr.now ≡ None }
 {
     if !calls_monitor(instr) {
         return false;
@@ -78,8 +75,5 @@ pub(crate) fn instruction_in(bytes: &[u8]) -> Option<Instr>
         → HoldsInstruction image at i → result ≡ Some i }
     ensures valid { IfSome result IsValid }
 {
-    match decode(word_at(bytes)) {
-        Ok(instr) => Some(instr),
-        Err(_) => None,
-    }
+    decode(word_at(bytes)).ok()
 }

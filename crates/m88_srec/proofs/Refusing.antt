@@ -1,5 +1,5 @@
 -- S-records are accepted or have one refusal, never both.
-use Rattle.std.proofs.Common.{◌≡◌, ◌⊎◌, ◌∙◌, ℕ, List, ap, inl, inr, refl, sym}
+use Rattle.std.proofs.Common.{◌⊎◌, ◌∙◌, ℕ, List, ap, inl, inr, refl, sym}
 use Rattle.m88_base.proofs.Laws.{told_once}
 use Rattle.m88_base.specs.OneVerdict.{HasOneFaultUnless}
 use Rattle.m88_base.specs.Refusal.{Refusal}

@@ -10,8 +10,8 @@ use crate::stream::read_image;
 use m88_base::{Image, MOST_INPUT, NoMemory, ReadEnd, Refusal, Source};
 use std::alloc::Global;
 
-/// The image that a source writes as S-records, MOST_INPUT bytes at most, or the refusal of their text, told at column 1
-/// of the line of its first fault; or why the source was not read to its end. The text is not kept.
+/// The image that a source writes as S-records, MOST_INPUT bytes at most, or the refusal of their text, told at column
+/// 1 of the line of its first fault; or why the source was not read to its end. The text is not kept.
 pub fn read_records<S: Source>(
     alloc: Global,
     source: &mut S,
@@ -24,7 +24,7 @@ pub fn read_records<S: Source>(
     match read_image(alloc, source, MOST_INPUT) {
         Ok(image) => Ok(Ok(image)),
         Err(LoadEnd::Refused(fault)) => {
-            let refusal = refusal_of(alloc, &fault).or(Err(ReadEnd::Memory))?;
+            let refusal = refusal_of(alloc, &fault)?;
             Ok(Err(refusal))
         }
         Err(LoadEnd::SourceFault) => Err(ReadEnd::SourceFault),

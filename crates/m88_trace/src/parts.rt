@@ -1,7 +1,7 @@
 //! The parts of a trace's lines. Each call appends to a text, and where memory runs out, some of the part may be in it.
 
 ghost use Rattle.std.specs.Prelude.{◌≡◌, ◌%◌, ◌<◌, ◌≤◌, ◌++◌, OnOk, codes, decimal, drop, if◌then◌else◌, length, ◌∷◌, []};
-ghost use Rattle.m88_base.specs.Hex.{hex2, hex8, hex_digit};
+ghost use Rattle.m88_base.specs.Hex.{hex8, hex_digit};
 ghost use Rattle.m88_base.specs.Lines.{line_end};
 ghost use Rattle.m88_isa.specs.Memory.{IsWordAccess};
 ghost use Rattle.m88_trace.specs.Lines.{access_head, head_text, output_text, written_text};

@@ -10,15 +10,8 @@ use Rattle.m88_isa.specs.declared.planned.Accesses.{Accesses}
 use Rattle.m88_mem.specs.DataBus.{MemoryView, absent_of, bus_of}
 use Rattle.m88_scoreboard.specs.Registers.{Registers, none_waits, waiting_of}
 use Rattle.m88_board.specs.Board.{cells_in}
-use Rattle.m88_board.specs.Kept.{PartsAgree, StaysReady}
+use Rattle.m88_board.specs.Kept.{PartsAgree}
 use Rattle.m88_board.specs.Shown.{IsRecordOf, ShowsFault, rest_of}
-
--- pages of memory became ready, and nothing else of it changed
-pub record GainsReady (old new : MemoryView) : Type 0 where
-  pub image : new.image ≡ old.image
-  pub bus : bus_of new ≡ bus_of old
-  pub absent : absent_of new ≡ absent_of old
-  pub stays : StaysReady old new
 
 -- accesses were put behind the pending ones, whose registers wait, and no number in a register changed
 pub record PutsIn (accesses : Accesses) (old : List Access) (file : Registers) (new : List Access) (file' : Registers)

@@ -3,7 +3,7 @@ use Rattle.std.proofs.Common.{◌≡◌, ℕ, List, [], ◌∷◌, Option, ap, i
 use Rattle.m88_base.specs.Image.{IsImage, ProgramImage}
 use Rattle.m88_isa.specs.Machine.{Program}
 use Rattle.m88_board.specs.declared.glance.Glance.{Glance}
-use Rattle.m88_asm.specs.Inside.Held.{HoldsUnit}
+use Rattle.m88_asm.specs.Held.{HoldsUnit}
 use Rattle.m88_cli.specs.Command.{mon}
 use Rattle.m88_cli.specs.Inside.Fronts.{IsSessionFront}
 use Rattle.m88_cli.specs.Monitoring.{IsMonitorInput}

@@ -2,7 +2,7 @@
 use Rattle.std.specs.Prelude.{ℕ, ◌≤◌, List, length, map}
 use Rattle.m88_base.specs.Image.{ProgramImage}
 use Rattle.m88_cli.specs.Limits.{most_input}
-use Rattle.m88_asm.specs.Inside.Held.{HoldEach}
+use Rattle.m88_asm.specs.Held.{HoldEach}
 use Rattle.m88_asm.specs.Several.{AreSources, PlacedSource}
 use Rattle.m88_cli.specs.Sources.{most_sources}
 use Rattle.m88_cli.specs.declared.commands.sources.PlacedSource.{PlacedSource as Kept}

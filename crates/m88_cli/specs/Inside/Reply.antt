@@ -1,6 +1,5 @@
 -- What the reply to an input says, and what a watch was shown on the way to it.
-use Rattle.std.specs.Prelude.{ℕ, ◌≡◌, ◌⊎◌, List, Option, Result, IfOk, MatchBool, OnErr, false}
-use Rattle.m88_base.specs.Refusal.{Refusal, refusal_line}
+use Rattle.std.specs.Prelude.{ℕ, ◌≡◌, ◌⊎◌, List, Option, Result, IfOk, MatchBool, OnErr}
 use Rattle.m88_base.specs.Reply.{AnswersAs}
 use Rattle.m88_base.specs.declared.reply.Reply.{Reply}
 use Rattle.m88_board.specs.declared.glance.Glance.{Glance}
@@ -30,8 +29,3 @@ pub record AnswersShown {W E : Type 0} (seen : W → Option (List Glance)) (old 
   pub reply : IfOk result (Replies command input)
   pub watched : IfOk result (WatchesReply seen old new command input)
   pub front : OnErr result (WatchesFront seen old new command input)
-
--- the reply is the line of a refusal
-pub record IsRefusalOf (r : Refusal) (reply : Reply) : Type 0 where
-  pub refused : reply.accepted ≡ false
-  pub line : reply.text.items ≡ refusal_line r

@@ -5,13 +5,12 @@ ghost use Rattle.m88_asm.specs.Sources.{IsRefusedProgram, IsRefusedSource};
 ghost use Rattle.m88_cli.specs.Command.{asm, build};
 ghost use Rattle.m88_cli.specs.Limits.{most_input};
 ghost use Rattle.m88_cli.specs.Inside.Linking.{IsObjectsOf};
-ghost use Rattle.m88_asm.specs.Inside.Held.{HoldsUnit};
+ghost use Rattle.m88_asm.specs.Held.{HoldsUnit};
 ghost use Rattle.m88_cli.specs.Inside.Reply.{Replies};
 
 use crate::commands::source_fault::{unassembled, unlinked, unread};
-use crate::reply::{Reply, accept, refuse};
 use m88_asm::{UnitFault, assemble, image_of};
-use m88_base::{Image, NoMemory, Refusal};
+use m88_base::{Image, NoMemory, Refusal, Reply, accept, refuse};
 use m88_link::{Object, object_text};
 use m88_parse::parse;
 use m88_srec::write_srec;

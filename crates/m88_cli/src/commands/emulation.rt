@@ -6,15 +6,14 @@ ghost use Rattle.m88_cli.specs.Answer.Emulation.{emulation_line, told_of_emulate
 ghost use Rattle.m88_cli.specs.Inside.Reading.{ReadsFit};
 ghost use Rattle.m88_cli.specs.Inside.Reply.{Replies};
 ghost use Rattle.m88_cli.specs.Limits.{most_input};
-ghost use Rattle.m88_cli.specs.Words.{texts};
+ghost use Rattle.m88_base.specs.Words.{texts};
 
 use crate::commands::Command;
 use crate::commands::assembly::image_of_source;
 use crate::commands::numbered::push_numbered_event;
 use crate::grammar::plain_settings;
-use crate::reply::{Reply, accept, refuse};
 use crate::settings::Settings;
-use m88_base::{NoMemory, push_decimal, push_hex8};
+use m88_base::{NoMemory, Reply, accept, push_decimal, push_hex8, refuse};
 use m88_emul::{EmulOutcome, Emulation};
 use m88_report::{push_count, report};
 use std::alloc::{AllocError, Global};

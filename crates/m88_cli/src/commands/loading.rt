@@ -4,8 +4,7 @@ ghost use Rattle.m88_srec.specs.Refused.{AreRecordsOf};
 ghost use Rattle.m88_cli.specs.Command.{dis};
 ghost use Rattle.m88_cli.specs.Inside.Reply.{Replies};
 
-use crate::reply::{Reply, accept, refuse};
-use m88_base::{Image, NoMemory, Refusal};
+use m88_base::{Image, NoMemory, Refusal, Reply, accept, refuse};
 use m88_disasm::listing;
 use std::alloc::Global;
 

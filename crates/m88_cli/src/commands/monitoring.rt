@@ -2,24 +2,23 @@
 ghost use Rattle.std.specs.Prelude.{ℕ, ◌≡◌, ◌≤◌, ◌∷◌, IfOk, List, MatchResult, codes, length};
 ghost use Rattle.m88_cli.specs.Command.{AreBounded, IsFit, Spells, command_of, mon, settings_in};
 ghost use Rattle.m88_cli.specs.Limits.{most_input};
-ghost use Rattle.m88_asm.specs.Inside.Held.{HoldsUnit};
+ghost use Rattle.m88_asm.specs.Held.{HoldsUnit};
 ghost use Rattle.m88_cli.specs.Monitoring.{IsRefusedMonitor};
 ghost use Rattle.m88_cli.specs.Inside.Reading.{ReadsFit};
 ghost use Rattle.m88_cli.specs.Inside.Reply.{AnswersShown};
 ghost use Rattle.m88_cli.specs.Script.{IsScript, script_refusal};
-ghost use Rattle.m88_cli.specs.Words.{texts};
+ghost use Rattle.m88_base.specs.Words.{texts};
 
 use crate::commands::Command;
 use crate::commands::assembly::image_of_source;
 use crate::commands::monitor::carry_out;
 use crate::grammar::opening;
 use crate::limits::SESSION_LIMIT;
-use crate::reply::{Reply, accept, refuse};
 use crate::script::{MonitorCommand, ScriptFault, read_script};
 use crate::script_lines::MOST_COMMANDS;
 use crate::settings::Settings;
 use arrayvec::ArrayVec;
-use m88_base::{Image, NoMemory, Refusal};
+use m88_base::{Image, NoMemory, Refusal, Reply, accept, refuse};
 use m88_board::Watch;
 use std::alloc::Global;
 

@@ -9,8 +9,7 @@ ghost use Rattle.m88_asm.specs.LinkedTexts.{IsRefusedObjects};
 ghost use Rattle.m88_cli.specs.Inside.Reply.{Replies};
 
 use crate::commands::source_fault::unlinked;
-use crate::reply::{Reply, accept, refuse};
-use m88_base::{NoMemory, Refusal};
+use m88_base::{NoMemory, Refusal, Reply, accept, refuse};
 use m88_link::{Object, ObjectFault, link, read_objects};
 use m88_srec::write_srec;
 use std::alloc::Global;

@@ -1,5 +1,5 @@
 //! `run` and `exec`: a run on the board, and its report.
-ghost use Rattle.std.specs.Prelude.{ℕ, ◌≡◌, ◌≤◌, ◌∷◌, List, codes, length, true};
+ghost use Rattle.std.specs.Prelude.{ℕ, ◌≡◌, ◌≤◌, ◌∷◌, List, codes, length};
 ghost use Rattle.m88_event.specs.declared.outcome.Outcome.{Outcome as OutcomeValue};
 ghost use Rattle.m88_srec.specs.Refused.{AreRecordsOf};
 ghost use Rattle.m88_cli.specs.Command.{AreBounded, IsFit, Spells, command_of, exec, run, settings_in};
@@ -7,14 +7,13 @@ ghost use Rattle.m88_cli.specs.Inside.Reading.{ReadsFit};
 ghost use Rattle.m88_cli.specs.Inside.Reply.{AnswersShown};
 ghost use Rattle.m88_cli.specs.Inside.Running.{Reports, RunsImage};
 ghost use Rattle.m88_cli.specs.Limits.{most_input};
-ghost use Rattle.m88_cli.specs.Words.{texts};
+ghost use Rattle.m88_base.specs.Words.{texts};
 
 use crate::commands::Command;
 use crate::commands::assembly::image_of_source;
 use crate::grammar::settings;
-use crate::reply::{Reply, accept, refuse};
 use crate::settings::Settings;
-use m88_base::{Image, NoMemory, Refusal};
+use m88_base::{Image, NoMemory, Refusal, Reply, accept, refuse};
 use m88_board::{Board, Watch};
 use m88_event::Outcome;
 use m88_report::report;

@@ -5,14 +5,13 @@ ghost use Rattle.m88_cli.specs.Inside.Reading.{ReadsFit};
 ghost use Rattle.m88_cli.specs.Inside.Reply.{Replies};
 ghost use Rattle.m88_cli.specs.Limits.{most_input};
 ghost use Rattle.m88_cli.specs.TracedSources.{differs_refusal, no_trace_refusal};
-ghost use Rattle.m88_cli.specs.Words.{texts};
+ghost use Rattle.m88_base.specs.Words.{texts};
 
 use crate::commands::Command;
 use crate::commands::assembly::image_of_source;
 use crate::grammar::plain_settings;
-use crate::reply::{Reply, accept, refuse};
 use crate::settings::Settings;
-use m88_base::{NoMemory, Refusal, parted_at};
+use m88_base::{NoMemory, Refusal, Reply, accept, parted_at, refuse};
 use m88_report::push_count;
 use m88_trace::{TraceFault, check_trace, trace_run};
 use std::alloc::Global;

@@ -2,7 +2,7 @@
 -- each mnemonic is spelled as the operations of its form are named.
 use Rattle.std.proofs.Common.{◌≡◌, ℕ, Bool, true, false, ◌⊎◌, inl, inr, List, Option, Some, None, refl, ap}
 use Rattle.m88_isa.specs.Mnemonic.{text_of}
-use Rattle.m88_isa.specs.Inside.Letters.{begun_with, mnemonic_of}
+use Rattle.m88_isa.specs.Letters.{begun_with, mnemonic_of}
 use Rattle.m88_isa.specs.declared.mnemonic.Mnemonic.{Mnemonic}
 use Rattle.m88_isa.specs.declared.mnemonic.Mnemonic.TheVariants as mnemonic
 use Rattle.m88_isa.specs.declared.instr.ImmOp.{ImmOp}

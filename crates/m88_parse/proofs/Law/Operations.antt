@@ -4,7 +4,7 @@ use Rattle.std.proofs.lemmas.Slice.Eq.{bytes_eq-Decides}
 use Rattle.m88_isa.specs.declared.mnemonic.Mnemonic.{Mnemonic}
 use Rattle.m88_isa.specs.declared.mnemonic.Mnemonic.TheVariants as mnemonic
 use Rattle.m88_isa.specs.Mnemonic.{text_of}
-use Rattle.m88_isa.specs.Inside.Letters.{begun_with, mnemonic_of}
+use Rattle.m88_isa.specs.Letters.{begun_with, mnemonic_of}
 use Rattle.m88_isa.proofs.Laws.{spelled_once, spells}
 use Rattle.m88_parse.specs.declared.unit.Body.{Body}
 use Rattle.m88_parse.specs.declared.unit.Body.TheVariants as body

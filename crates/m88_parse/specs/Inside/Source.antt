@@ -2,7 +2,7 @@
 use Rattle.std.specs.Prelude.{ℕ, ◌+◌, Bool, false, List, [], ◌∷◌, length, if◌then◌else◌, Option, Some, None, Result, Ok}
 use lib.Chars.{codes}
 use Rattle.m88_base.specs.Lines.{lines_of}
-use Rattle.m88_isa.specs.Inside.Letters.{mnemonic_of}
+use Rattle.m88_isa.specs.Letters.{mnemonic_of}
 use Rattle.m88_isa.specs.declared.mnemonic.Mnemonic.{Mnemonic}
 use Rattle.m88_parse.specs.declared.fault.ParseFault.{ParseFault}
 use Rattle.m88_parse.specs.declared.fault.ParseKind.TheVariants.{Syntax, NoSuchName}

@@ -2,7 +2,7 @@
 use Rattle.std.proofs.Common.{◌≡◌, ap, false, refl, rules, subst, sym, ◌∙◌}
 use Rattle.m88_cli.specs.Command.{settings_of}
 use Rattle.m88_cli.specs.Settings.{SaySettings, Settings}
-use Rattle.m88_cli.specs.Words.{texts}
+use Rattle.m88_base.specs.Words.{texts}
 use Rattle.m88_cli.proofs.NoneRead.{reads_none}
 use Rattle.m88_cli.proofs.grammar.plain_settings.Goals as goal
 

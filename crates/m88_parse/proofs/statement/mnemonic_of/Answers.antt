@@ -2,7 +2,7 @@
 use Rattle.std.specs.Prelude.{ℕ, List, [], ◌∷◌, Some, None, ◌≡◌, slice_get}
 use Rattle.std.proofs.Common.{refl, sym, ap, ◌∙◌}
 use Rattle.m88_isa.specs.Mnemonic.{text_of}
-use Rattle.m88_isa.specs.Inside.Letters.{begun_with, mnemonic_of}
+use Rattle.m88_isa.specs.Letters.{begun_with, mnemonic_of}
 use Rattle.m88_isa.proofs.Laws.{settled}
 use Rattle.m88_parse.proofs.statement.mnemonic_of.Goals as goal
 

@@ -1,10 +1,11 @@
 -- What is written is the reply, whole or a part of it, and a refusal stands whole only where it was written whole.
 use Rattle.std.proofs.Common.{◌≡◌, ◌∙◌, subst, sym}
+use Rattle.m88_base.specs.Words.{texts}
 use Rattle.m88_base.proofs.Laws.{answers_input, answers_nothing, answers_reply, none_of_reading}
 use Rattle.m88_sourcing.specs.Answer.{AsAsked, SourcesAccepted, SourcesRefused}
 use Rattle.m88_sourcing.specs.Inputs.{IsAcceptedIn}
 use Rattle.m88_sourcing.specs.Inside.Asked.{asked}
-use Rattle.m88_sourcing.specs.Request.{Asks, Request, words_of_call}
+use Rattle.m88_sourcing.specs.Request.{Asks, Request}
 use Rattle.m88_sourcing.proofs.Lengthening.{keeps_branches}
 use Rattle.m88_sourcing.proofs.Rebuilt.{source_again}
 use Rattle.m88_sourcing.proofs.Targeting.{names_targets}
@@ -13,19 +14,19 @@ use Rattle.m88_sourcing.proofs.program.m88source.Goals as goal
 
 pub returns-in_default-clause-answers : goal.returns-in_default-clause-answers
 returns-in_default-clause-answers g c =
-    let words = words_of_call c.args.words.now in
+    let words = texts c.args.words.now in
     answers_nothing g.S.Source.left g.K.Sink.held g.K.Sink.calls (AsAsked words SourcesAccepted) (AsAsked words SourcesRefused)
     _ _ _ _ (sourced_some words) tt
 
 pub returns-in-Err-clause-answers : goal.returns-in-Err-clause-answers
 returns-in-Err-clause-answers g c =
-    let words = words_of_call c.args.words.now in
+    let words = texts c.args.words.now in
     answers_nothing g.S.Source.left g.K.Sink.held g.K.Sink.calls (AsAsked words SourcesAccepted) (AsAsked words SourcesRefused)
     _ _ _ _ (sourced_some words) (none_of_reading c.in-Err.status c.in-Err.ensures.status)
 
 pub returns-in-Ok-clause-answers : goal.returns-in-Ok-clause-answers
 returns-in-Ok-clause-answers g c =
-    let words = words_of_call c.args.words.now in
+    let words = texts c.args.words.now in
     let known = asked c.in-Some.request in
     let ok = c.in-Ok.ensures.ok in
     answers_reply g.S.Source.left g.K.Sink.held g.K.Sink.calls (AsAsked words SourcesAccepted) (AsAsked words SourcesRefused)
@@ -39,7 +40,7 @@ returns-in_default-clause-complete g c = λ request asks bytes holds sound unfai
 
 pub returns-in-Ok-clause-complete : goal.returns-in-Ok-clause-complete
 returns-in-Ok-clause-complete g c = λ request asks bytes holds sound unfailing.
-    let words = words_of_call c.args.words.now in
+    let words = texts c.args.words.now in
     let known = asked c.in-Some.request in
     let ok = c.in-Ok.ensures.ok in
     let one : (r : Request) (asks_it : Asks words r) → r ≡ request =

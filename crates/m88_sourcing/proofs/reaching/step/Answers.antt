@@ -44,25 +44,25 @@ pub returns-clause-closed : goal.returns-clause-closed
 returns-clause-closed c =
     more_closed c.args.image.now c.args.walk.now
     (record { outline = c.note_word.new.outline; heads = c.push_if.new.addresses; slots = c.push_other.new.addresses })
-    c.args.at c.lead-next.result c.slot.result c.in-Now.label c.in-Some.instr
+    c.args.at c.next_of-next.result c.slot.result c.in-Now.label c.in-Some.instr
     (c.in-Some.ensures.some c.args.image.now c.requires.rest) c.requires.closed c.in_ok-label.ensures.code
     c.in_ok-label.ensures.named
     (subst (λ (n : Noted). AddsLabel c.args.walk.now.outline c.note_word.new.outline (noted_label n)) c.in-Now.is
     c.in_ok-label.ensures.labels)
-    c.slot.ensures c.in_ok-push_other.ensures.keeps c.in_ok-push_other.ensures.has c.lead-next.ensures.only
-    c.lead-next.ensures.has c.in_ok-push_if.ensures
+    c.slot.ensures c.in_ok-push_other.ensures.keeps c.in_ok-push_other.ensures.has c.next_of-next.ensures.only
+    c.next_of-next.ensures.has c.in_ok-push_if.ensures
 
 pub returns-clause-sound : goal.returns-clause-sound
 returns-clause-sound c = λ seeds sound reached.
     more_sound c.args.image.now seeds c.args.walk.now
     (record { outline = c.note_word.new.outline; heads = c.push_if.new.addresses; slots = c.push_other.new.addresses })
-    c.args.at c.lead-next.result c.slot.result c.in-Some.instr
+    c.args.at c.next_of-next.result c.slot.result c.in-Some.instr
     (c.in-Some.ensures.some c.args.image.now c.requires.rest) sound reached c.in_ok-label.ensures.code c.slot.ensures
     c.in_ok-push_other.ensures.only
     (λ b there.
     elim ((with_one _ _ _ b c.in_ok-push_if.ensures).0 there) [
       | inl old ↦ inl old
       | inr new ↦
-          inr (c.lead-next.ensures.branch b (c.in_ok-label.ensures.label b (ap noted_label c.in-Now.is ∙ new)))
+          inr (c.next_of-next.ensures.branch b (c.in_ok-label.ensures.label b (ap noted_label c.in-Now.is ∙ new)))
     ])
-    c.lead-next.ensures.only
+    c.next_of-next.ensures.only

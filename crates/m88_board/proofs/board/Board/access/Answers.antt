@@ -88,7 +88,7 @@ invariant_of-self-2 c =
     kept_issued b effect.accesses c.advance.new.iunit c.put_in.new.unit c.put_in.new.regs
     c.prepare.new.memory b.control c.self.invariant next.due.going (can_of i effect b planned) (omega (arith, room, fits))
     (stays_apart i b effect (going_of i effect b planned) c.self.invariant.parts.apart)
-    c.put_in.ensures.pending c.put_in.ensures.waiting c.prepare.ensures.only.stays (search rules) c.advance.ensures.slots
+    c.put_in.ensures.pending c.put_in.ensures.waiting c.prepare.ensures.only.ready (search rules) c.advance.ensures.slots
     (ap (λ (a : Slot). a.v) c.advance.ensures.advanced.xip) c.prepare.ensures.only.image
     (status_same b c.self.invariant next.due.going)
 

@@ -1,5 +1,5 @@
 -- The records of the image answer the source, and so does the line that refuses it.
-use Rattle.m88_asm.specs.Inside.Held.{HoldsUnit}
+use Rattle.m88_asm.specs.Held.{HoldsUnit}
 use Rattle.m88_cli.specs.Command.{build}
 use Rattle.m88_cli.proofs.OneText.Linked.{recorded}
 use Rattle.m88_cli.proofs.Refusing.{refused_reply}

@@ -2,7 +2,7 @@
 use Rattle.std.proofs.Common.{◌≡◌, ℕ, List, ◌∷◌, ◌∙◌, ap, codes, refl, rules}
 use Rattle.m88_cli.specs.Command.{Command, Spells, emu}
 use Rattle.m88_cli.specs.Settings.{SayPlain, Settings}
-use Rattle.m88_cli.specs.Words.{texts}
+use Rattle.m88_base.specs.Words.{texts}
 use Rattle.m88_cli.proofs.NoneRead.{reads_none}
 use Rattle.m88_cli.proofs.commands.emulation.emulation_command.Goals as goal
 

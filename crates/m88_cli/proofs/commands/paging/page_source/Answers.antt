@@ -1,6 +1,6 @@
 -- What is told of the run answers the source, whose image holds the program, and so does the line that refuses it.
 use Rattle.m88_asm.proofs.Laws.{accepted_source, holds_by_image}
-use Rattle.m88_asm.specs.Inside.Held.{HoldsUnit}
+use Rattle.m88_asm.specs.Held.{HoldsUnit}
 use Rattle.m88_cli.specs.Answer.Paging.{PagesTo}
 use Rattle.m88_cli.specs.Command.{page, settings_in}
 use Rattle.m88_cli.proofs.OneText.Paged.{one_count}

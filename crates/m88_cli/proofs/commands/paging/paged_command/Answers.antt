@@ -2,7 +2,7 @@
 use Rattle.std.proofs.Common.{◌≡◌, ℕ, List, ◌∷◌, ap₂, codes, false, refl, rules}
 use Rattle.m88_cli.specs.Command.{Command, Spells, page, settings_of}
 use Rattle.m88_cli.specs.Settings.{SayPaged, Settings}
-use Rattle.m88_cli.specs.Words.{texts}
+use Rattle.m88_base.specs.Words.{texts}
 use Rattle.m88_cli.proofs.NoneRead.{reads_none}
 use Rattle.m88_cli.proofs.commands.paging.paged_command.Goals as goal
 

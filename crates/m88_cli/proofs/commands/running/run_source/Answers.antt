@@ -1,5 +1,5 @@
 -- The image holds the program of the source, and the report of its run answers the source.
-use Rattle.m88_asm.specs.Inside.Held.{HoldsUnit}
+use Rattle.m88_asm.specs.Held.{HoldsUnit}
 use Rattle.m88_cli.specs.Command.{run, settings_in}
 use Rattle.m88_cli.proofs.Refusing.{refused_shown}
 use Rattle.m88_cli.proofs.Reporting.{run_answers, runs_source}

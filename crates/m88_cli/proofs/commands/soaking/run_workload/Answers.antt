@@ -5,7 +5,7 @@ use Rattle.std.specs.List.{range_with_len}
 use Rattle.std.proofs.lemmas.List.{length-map}
 use Rattle.std.proofs.lemmas.List.FromFn.{length-range_with_len}
 use Rattle.m88_asm.proofs.Laws.{held_by, not_linked}
-use Rattle.m88_asm.specs.Inside.Held.{HoldsUnit}
+use Rattle.m88_asm.specs.Held.{HoldsUnit}
 use Rattle.m88_asm.specs.Sources.{IsRefusedProgram, IsSourceProgram}
 use Rattle.m88_base.specs.Image.{IsImage, ProgramImage}
 use Rattle.m88_base.specs.Refusal.{Refusal}

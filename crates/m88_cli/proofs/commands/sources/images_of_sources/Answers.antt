@@ -2,7 +2,7 @@
 use Rattle.std.proofs.Common.{[], ◌≤◌, arith, inr, length, rules, subst, sym, ◌≡◌, ℕ, ◌+◌, ◌<◌, List, ◌∷◌, ◌++◌, ap, drop, get_or, take, ◌∙◌}
 use Rattle.std.proofs.lemmas.List.{drop_more, length-map, map-append, take-append-drop, take_more}
 use Rattle.m88_asm.proofs.Laws.{hold_none, all_programs, hold_more}
-use Rattle.m88_asm.specs.Inside.Held.{HoldEach, HoldsUnit}
+use Rattle.m88_asm.specs.Held.{HoldEach, HoldsUnit}
 use Rattle.m88_asm.specs.Several.{AreSources, HasRefusedSource, PlacedSource}
 use Rattle.m88_asm.specs.Sources.{IsRefusedProgram}
 use Rattle.m88_base.specs.Image.{ProgramImage}

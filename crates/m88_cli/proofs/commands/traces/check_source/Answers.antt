@@ -1,7 +1,7 @@
 -- How many lines of its trace stand behind a source answers the input, and so does the line that refuses it.
 use Rattle.std.proofs.Common.{◌≡◌, ◌+◌, ◌∙◌, ◌++◌, ap, arith, codes, inl, inr, subst, sym}
 use Rattle.m88_asm.proofs.Laws.{accepted_source, holds_by_image}
-use Rattle.m88_asm.specs.Inside.Held.{HoldsUnit}
+use Rattle.m88_asm.specs.Held.{HoldsUnit}
 use Rattle.m88_asm.specs.Sources.{HoldsOfProgram}
 use Rattle.m88_report.specs.Report.{count_line}
 use Rattle.m88_trace.specs.Texts.{FaultOf, IsText}

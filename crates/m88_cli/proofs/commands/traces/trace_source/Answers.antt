@@ -1,6 +1,6 @@
 -- The trace answers the source, whose image holds the program that it is of, and so does the line that refuses it.
 use Rattle.m88_asm.proofs.Laws.{accepted_source, holds_by_image}
-use Rattle.m88_asm.specs.Inside.Held.{HoldsUnit}
+use Rattle.m88_asm.specs.Held.{HoldsUnit}
 use Rattle.m88_cli.specs.Command.{settings_in, trace}
 use Rattle.m88_cli.proofs.Refusing.{refused_reply}
 use Rattle.m88_cli.proofs.commands.traces.trace_source.Goals as goal

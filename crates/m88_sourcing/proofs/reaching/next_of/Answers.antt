@@ -3,7 +3,7 @@ use Rattle.std.proofs.Common.{◌≡◌, ◌∙◌, ap, inl, inr}
 use Rattle.m88_isa.specs.declared.instr.Instr.{Instr as Instruction}
 use Rattle.m88_sourcing.specs.Flow.{branch_target, goes_on_to}
 use Rattle.m88_sourcing.proofs.OneInstruction.{same_instruction}
-use Rattle.m88_sourcing.proofs.reaching.lead.Goals as goal
+use Rattle.m88_sourcing.proofs.reaching.next_of.Goals as goal
 
 pub returns-then-is_exit-clause-has : goal.returns-then-is_exit-clause-has
 returns-then-is_exit-clause-has c = λ b led. absurd (led.2 (c.is_exit.ensures.exit.0 c.if-is_exit.true))

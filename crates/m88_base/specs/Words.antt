@@ -1,4 +1,4 @@
--- The words of the program as texts.
+-- The words of a program as texts.
 use Rattle.std.specs.declared.alloc.Global.{Global}
 use Rattle.std.specs.Prelude.{ℕ, List, String, map, string_bytes}
 
