@@ -1,5 +1,5 @@
-//! Rows of commands, told in the files of `data/` that the arguments name: each is tried, and what isn't as its row says
-//! is printed. The last line counts the rows.
+//! Rows of commands, told in the files that the arguments name, or else in all of the folder that have a name with
+//! `.rows`: each is tried, and what isn't as its row says is printed. The last line counts the rows.
 #![tactic(auto)]
 
 mod reading;
@@ -11,11 +11,14 @@ mod trying;
 use crate::reading::rows_of;
 use crate::row::Row;
 use crate::trying::{Tally, tried};
-use anyhow::Result;
+use anyhow::{Result, bail};
 use std::{env, fs};
 
 fn main(rt: HostRuntime) -> Result<()> {
-    let names = env::args(&rt)?.skip(1).collect::<Vec<String>>(rt.alloc())?;
+    let mut names = env::args(&rt)?.skip(1).collect::<Vec<String>>(rt.alloc())?;
+    if names.is_empty() {
+        names = names_here(&rt)?;
+    }
     let mut tally = Tally::new();
     for name in names.as_slice() {
         match rows_in(&rt, name.as_str()) {
@@ -30,10 +33,29 @@ fn main(rt: HostRuntime) -> Result<()> {
     Ok(())
 }
 
-/// The rows of a file.
+/// The names of the files of rows in the folder that the program runs in; there is at least one.
+fn names_here(rt: &HostRuntime) -> Result<Vec<String>> {
+    let mut names = Vec::new(rt.alloc());
+    for entry in fs::read_dir(rt, ".")? {
+        let entry = entry?;
+        if entry.file_name().ends_with(".rows") {
+            names.push(String::from_str(rt.alloc(), entry.file_name())?)?;
+        }
+    }
+    if names.is_empty() {
+        bail!("no file has rows");
+    }
+    Ok(names)
+}
+
+/// The rows of a file, which has some.
 fn rows_in(rt: &HostRuntime, name: &str) -> Result<Vec<Row>> {
     let text = fs::read_to_string(rt, name)?;
-    rows_of(rt.alloc(), text.as_str())
+    let rows = rows_of(rt.alloc(), text.as_str())?;
+    if rows.is_empty() {
+        bail!("1: there is no row");
+    }
+    Ok(rows)
 }
 
 /// Tries rows, and prints what is wrong with each.
