@@ -23,8 +23,8 @@ pub use Rattle.m88_asm.proofs.Sounding.{first_parts}
 pub use Rattle.m88_asm.proofs.Assembling.{none_of_both}
 -- Sources: one is accepted for assembling, or for linking too, or has one refusal, behind other lines of an input too.
 pub use Rattle.m88_asm.proofs.SourceVerdicts.{not_linked, one_assembly_verdict, one_program_verdict, program_or_refusal, same_program_refusal}
--- one that is accepted has one program in each mode, as bytes have one instruction at an address, or none
-pub use Rattle.m88_asm.proofs.UnitPrograms.{HasProgram, one_at, one_source_program, same_program, source_program}
+-- one that is accepted has one program in each mode
+pub use Rattle.m88_asm.proofs.UnitPrograms.{HasProgram, one_source_program, same_program, source_program}
 -- it has one image, and the program that an image holds which holds its unit
 pub use Rattle.m88_asm.proofs.HeldUnits.{Held, accepted_source, held_by, holds_by_image, holds_of_same, holds_unit, one_source_image}
 -- Several sources in one input: it has one verdict, and what stands behind its lines is sources in one way

@@ -11,33 +11,12 @@ use Rattle.m88_base.specs.Image.{IsImage, ProgramImage, byte_at, byte_count}
 use Rattle.m88_isa.proofs.Laws.{by_test, word_small}
 use Rattle.m88_isa.specs.ImageProgram.{HasWordOf, IsInstructionAt}
 use Rattle.m88_isa.specs.Machine.{Program, four_bytes, word_bytes}
-use Rattle.m88_isa.specs.Word.{IsWord}
 use Rattle.m88_isa.specs.declared.instr.Instr.{Instr}
-use Rattle.m88_codec.proofs.Laws.{one_reading, program_in, program_in_holds}
+use Rattle.m88_codec.proofs.Laws.{one_at, program_in, program_in_holds}
 use Rattle.m88_parse.proofs.Laws.{one_source_verdict}
 use Rattle.m88_parse.specs.declared.unit.Unit.{Unit as Source}
 use Rattle.m88_asm.specs.Images.{IsUnitInstruction, IsUnitProgram, placed_instruction, unit_byte, unit_start}
 use Rattle.m88_asm.specs.Sources.{IsProgramSource, IsSourceProgram}
-
--- four bytes are one word
-one_word : (i j : Instr) (v w : ℕ) → IsWord i v → IsWord j w → Some (to_be_bytes w32 v) ≡ Some (to_be_bytes w32 w) → v ≡ w
-one_word i j v w a b same =
-    let below = subst (λ n. n < 2 ^ 32) a.1 (word_small i a.0) in
-    let under = subst (λ n. n < 2 ^ 32) b.1 (word_small j b.0) in
-    sym (from_be_bytes-to_be_bytes_4 v below) ∙ ap (λ (o : Option (List ℕ)). from_be_bytes w32 (unwrap_or o [])) same
-    ∙ from_be_bytes-to_be_bytes_4 w under
-
-one_there : (byte : ℕ → Option ℕ) (a : ℕ) (i j : Instr) → HasWordOf byte a i → HasWordOf byte a j → i ≡ j
-one_there byte a i j (aligned, (v, bytes, is)) (aligned_too, (w, other, is_too)) =
-    let same = one_word i j v w is is_too (sym bytes ∙ other) in
-    one_reading w i j (subst (λ n. IsWord i n) same is) is_too
-
--- bytes have one instruction at an address, or none
-pub one_at : (byte : ℕ → Option ℕ) (a : ℕ) (o p : Option Instr) → IsInstructionAt byte a o → IsInstructionAt byte a p → o ≡ p
-one_at byte a None None h k = refl
-one_at byte a None (Some j) h k = absurd (h j k)
-one_at byte a (Some i) None h k = absurd (k i h)
-one_at byte a (Some i) (Some j) h k = ap Some (one_there byte a i j h k)
 
 -- an image of four bytes at address 0
 abbrev bytes_image : ℕ → ℕ → ℕ → ℕ → ProgramImage

@@ -1,6 +1,6 @@
 -- What a run came to, from the parts of a board that is over; and the state of the history that a board shows where
 -- nothing is pending.
-use Rattle.std.specs.Prelude.{ℕ, Bool, true, false, not, List, [], Option, Some, None, IfSome, ◌≡◌, ◌↔◌, ◌<◌, ◌==◌, ◌&&◌, ◌||◌, is_some, unwrap_or, if◌then◌else◌}
+use Rattle.std.specs.Prelude.{ℕ, Bool, true, false, not, List, [], Option, Some, None, IfSome, ◌≡◌, ◌↔◌, ◌<◌, ◌==◌, ◌||◌, is_some, unwrap_or, if◌then◌else◌}
 use Rattle.std.proofs.Common.{arith, refl, sym, ap, ap₂, ◌∙◌, subst}
 use Rattle.std.proofs.lemmas.Bool.{eqb-true}
 use Rattle.m88_ctrl.specs.ControlRegisters.{carry_of}
@@ -11,7 +11,7 @@ use Rattle.m88_event.specs.Timeline.{Moment, end_of_turn, is_drained, is_idle, i
 use Rattle.m88_event.specs.declared.happened.End.{End}
 use Rattle.m88_event.specs.declared.happened.End.TheVariants.{Limit}
 use Rattle.m88_event.specs.declared.outcome.Outcome.{Outcome}
-use Rattle.m88_isa.proofs.Laws.{program_of_image}
+use Rattle.m88_isa.proofs.Laws.{first_of, program_of_image, second_of}
 use Rattle.m88_isa.specs.Bus.{after_accesses, changed_words, in_words, waits_for}
 use Rattle.m88_isa.specs.Held.{is_pending}
 use Rattle.m88_isa.specs.History.{completed_state, transaction_count}
@@ -28,11 +28,6 @@ use Rattle.m88_board.specs.Kept.{IsKept, IsProgramEnd}
 use Rattle.m88_board.specs.Inside.Books.{outcome_in}
 use Rattle.m88_board.specs.Moves.{IsAt}
 use Rattle.m88_board.specs.Shown.{IsSettled}
-
--- both of two tests hold
-first_of : (a b : Bool) → (a && b) ≡ true → a ≡ true
-first_of true b h = refl
-first_of false b h = h
 
 not_pending : (t : Bool) → not t ≡ true → t ≡ false
 not_pending true h = sym h
@@ -160,10 +155,6 @@ limited_by (Some e) retired limit end early ends idle is = (
   λ h. absurd (subst IsProgramEnd (sym is ∙ h) ends),
   λ h. absurd (let less = early refl in omega (arith, less, h)),
 )
-
-second_of : (a b : Bool) → (a && b) ≡ true → b ≡ true
-second_of true b h = h
-second_of false b h = absurd cc
 
 over_idle : (p : Program) (named : ℕ → Bool) (m : Moment) (b : BoardView) → IsAt p named m b → is_over p b.limit m ≡ true →
     is_idle_board b ≡ true

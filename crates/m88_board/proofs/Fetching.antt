@@ -120,7 +120,7 @@ lacks_by p b of goes next =
     ∙ stopped_early (by_vector instruction_access (pc_of b.slots)) b.pending
 
 -- the program has no instruction where the word is none
-none_there : (o : Option Instr) (word : ℕ) →
+pub none_there : (o : Option Instr) (word : ℕ) →
     MatchOption o ((j : Instr) → ¬ IsWord j word) (λ j. IsWord j word) →
     ((j : Instr) → ¬ IsWord j word) →
     o ≡ None
@@ -142,7 +142,7 @@ unimplemented_by p b word of goes next small none =
     ∙ stopped_early (by_vector unimplemented (pc_of b.slots)) b.pending
 
 -- the program has the one instruction of the word
-found_there : (o : Option Instr) (i : Instr) (word : ℕ) →
+pub found_there : (o : Option Instr) (i : Instr) (word : ℕ) →
     MatchOption o ((j : Instr) → ¬ IsWord j word) (λ j. IsWord j word) →
     IsWord i word →
     ((j : Instr) → IsWord j word → j ≡ i) →

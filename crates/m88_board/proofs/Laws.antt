@@ -11,6 +11,10 @@ pub use Rattle.m88_board.proofs.Walking.{drained_by}
 pub use Rattle.m88_board.proofs.Walking.{along_events}
 -- Walks: a condition that held at none of the first k moments and fails at the next held at none of the first k + 1.
 pub use Rattle.m88_board.proofs.Walking.{not_yet}
+-- Searches: the least number from one on that passes a test is that one, lies behind it, or is none where none is left.
+pub use Rattle.m88_board.proofs.Searching.{here_first, not_here, nowhere}
+-- Fetching: a program has no instruction where a word is none, and the one of the word where it is one.
+pub use Rattle.m88_board.proofs.Fetching.{found_there, none_there}
 -- Those who watch a board see nothing without an event, and of two walks the glances of both.
 pub use Rattle.m88_board.proofs.Seeing.{saw_none, saw_then}
 -- The program of a board has its image's bytes, and its mode stays as it is.

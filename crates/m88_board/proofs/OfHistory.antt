@@ -1,18 +1,15 @@
 -- What holds of each state of a history: no step changes MXM, r0 is 0, and programs of one image have the same turns.
-use Rattle.std.specs.Prelude.{ℕ, zero, suc, List, [], ◌∷◌, Option, Some, None, ◌≡◌, ◌<◌, ◌^◌, ◌==◌, slice_index, unwrap_or}
-use Rattle.std.specs.Int.{from_be_bytes, to_be_bytes, w32}
-use Rattle.std.proofs.Common.{get_or-set_other, refl, sym, ap, ap₂, subst, ◌∙◌}
+use Rattle.std.specs.Prelude.{ℕ, zero, suc, List, [], ◌∷◌, Option, Some, None, ◌≡◌, ◌==◌, slice_index}
+use Rattle.std.proofs.Common.{get_or-set_other, refl, sym, ap, ap₂, ◌∙◌}
 use Rattle.std.proofs.lemmas.Bool.{eqb-false}
-use Rattle.std.proofs.lemmas.Nat.{from_be_bytes-to_be_bytes_4}
 use Rattle.m88_base.specs.Image.{ProgramImage, byte_at}
 use Rattle.m88_base.specs.Reg.{number_of, with_register}
 use Rattle.m88_base.specs.declared.reg.Reg.{Reg}
-use Rattle.m88_codec.proofs.Laws.{one_reading}
-use Rattle.m88_isa.proofs.Laws.{by_test, word_small}
-use Rattle.m88_isa.specs.ImageProgram.{HasWordOf, IsInstructionAt, IsProgramOf}
+use Rattle.m88_codec.proofs.Laws.{one_at}
+use Rattle.m88_isa.proofs.Laws.{by_test}
+use Rattle.m88_isa.specs.ImageProgram.{IsProgramOf}
 use Rattle.m88_isa.specs.Machine.{Program, State, Turn, after_touch, after_touches, changes, fetched, four_bytes, opening, outputs, state, state_after, stepped, stops, turn_at, with_written}
 use Rattle.m88_isa.specs.Memory.{Touch}
-use Rattle.m88_isa.specs.Word.{IsWord}
 use Rattle.m88_isa.specs.declared.instr.Instr.{Instr}
 use Rattle.m88_board.specs.Kept.{turn_by}
 use Rattle.m88_isa.specs.History.{completed_state}
@@ -62,24 +59,6 @@ pub zero_is : (p : Program) (n : ℕ) → slice_index (state p n).regs 0 ≡ 0
 unfolding state opening
 zero_is p zero = refl
 zero_is p (suc n) = zero_after (turn_at p (state p n)) (state p n) ∙ zero_is p n
-
--- four bytes are one word
-one_word : (i j : Instr) (v w : ℕ) → IsWord i v → IsWord j w → Some (to_be_bytes w32 v) ≡ Some (to_be_bytes w32 w) → v ≡ w
-one_word i j v w a b same =
-    sym (from_be_bytes-to_be_bytes_4 v (subst (λ n. n < 2 ^ 32) a.1 (word_small i a.0)))
-    ∙ ap (λ (o : Option (List ℕ)). from_be_bytes w32 (unwrap_or o [])) same
-    ∙ from_be_bytes-to_be_bytes_4 w (subst (λ n. n < 2 ^ 32) b.1 (word_small j b.0))
-
-one_there : (byte : ℕ → Option ℕ) (a : ℕ) (i j : Instr) → HasWordOf byte a i → HasWordOf byte a j → i ≡ j
-one_there byte a i j (aligned, (v, bytes, is)) (aligned_too, (w, other, is_too)) =
-    one_reading w i j (subst (λ n. IsWord i n) (one_word i j v w is is_too (sym bytes ∙ other)) is) is_too
-
--- bytes have one instruction at an address, or none
-one_at : (byte : ℕ → Option ℕ) (a : ℕ) (o p : Option Instr) → IsInstructionAt byte a o → IsInstructionAt byte a p → o ≡ p
-one_at byte a None None h k = refl
-one_at byte a None (Some j) h k = absurd (h j k)
-one_at byte a (Some i) None h k = absurd (k i h)
-one_at byte a (Some i) (Some j) h k = ap Some (one_there byte a i j h k)
 
 -- programs of one image have the same turn at a state
 pub same_turn : (image : ProgramImage) (p q : Program) (s : State) → IsProgramOf image p → IsProgramOf image q →

@@ -1,12 +1,12 @@
 -- The least number that passes a test, a number at a time.
-use Rattle.std.specs.Prelude.{ℕ, zero, suc, Bool, true, false, Some, None, ◌≡◌, ◌≢◌, ◌<◌, ◌+◌, ◌-◌}
+use Rattle.std.specs.Prelude.{ℕ, zero, suc, Bool, true, false, Some, None, ◌≡◌, ◌≢◌, ◌<◌, ◌≤◌, ◌+◌, ◌-◌}
 use Rattle.std.proofs.Common.{arith, refl, sym, ap, ◌∙◌}
 use Rattle.std.specs.Prelude.{List, min, max, ◌==◌, ◌&&◌, ◌||◌, bit_and, bit_or}
 use Rattle.std.specs.Int.{bit_at}
 use Rattle.std.proofs.lemmas.Bool.{eqb-false}
 use Rattle.std.proofs.lemmas.Nat.Bits.{bit_at_and, bit_at_or, bit_at-lt, bit_at-zero}
 use Rattle.m88_base.specs.RegisterSet.{registers_in}
-use Rattle.m88_isa.proofs.Laws.{by_test, none_passes}
+use Rattle.m88_isa.proofs.Laws.{by_test, no_second, none_passes}
 use Rattle.m88_isa.specs.Bus.{waits_for}
 use Rattle.m88_isa.specs.Held.{busy_register, first_from, involves}
 use Rattle.m88_isa.specs.Operands.{uses_of, writes_of}
@@ -21,16 +21,22 @@ first_fails : (n count : ℕ) (p : ℕ → Bool) → p n ≡ false → first_fro
 unfolding first_from
 first_fails n count p h = rw h refl
 
-here_first : (n : ℕ) (p : ℕ → Bool) → n < 32 → p n ≡ true → first_from n (32 - n) p ≡ Some n
-here_first n p low h =
-    let count : 32 - n ≡ suc (31 - n) = omega (arith, low) in
-    ap (λ k. first_from n k p) count ∙ first_passes n (31 - n) p h
+first_none : (n : ℕ) (p : ℕ → Bool) → first_from n zero p ≡ None
+unfolding first_from
+first_none n p = refl
 
-not_here : (n : ℕ) (p : ℕ → Bool) → n < 32 → p n ≡ false → first_from (n + 1) (32 - (n + 1)) p ≡ first_from n (32 - n) p
-not_here n p low h =
-    let count : 32 - n ≡ suc (31 - n) = omega (arith, low) in
-    let rest : 32 - (n + 1) ≡ 31 - n = omega (arith, low) in
-    ap (λ k. first_from (n + 1) k p) rest ∙ sym (first_fails n (31 - n) p h) ∙ sym (ap (λ k. first_from n k p) count)
+one_more : (n before : ℕ) → n < before → before - n ≡ suc (before - (n + 1))
+one_more n before h = omega (arith, h)
+
+pub here_first : (n before : ℕ) (p : ℕ → Bool) → n < before → p n ≡ true → first_from n (before - n) p ≡ Some n
+here_first n before p low h = ap (λ k. first_from n k p) (one_more n before low) ∙ first_passes n (before - (n + 1)) p h
+
+pub not_here : (n before : ℕ) (p : ℕ → Bool) → n < before → p n ≡ false → first_from (n + 1) (before - (n + 1)) p ≡ first_from n (before - n) p
+not_here n before p low h =
+    sym (first_fails n (before - (n + 1)) p h) ∙ sym (ap (λ k. first_from n k p) (one_more n before low))
+
+pub nowhere : (n before : ℕ) (p : ℕ → Bool) → before ≤ n → first_from n (before - n) p ≡ None
+nowhere n before p high = ap (λ k. first_from n k p) (let none : before - n ≡ 0 = omega (arith, high) in none) ∙ first_none n p
 
 -- where those below a number fail, it is as if they weren't tried
 passed_over : (n : ℕ) (p : ℕ → Bool) → n < 32 → ((k : ℕ) → k < n → p k ≡ false) → first_from n (32 - n) p ≡ first_from 0 32 p
@@ -39,11 +45,7 @@ passed_over (suc n) p low fails =
     let less : n < 32 = omega (arith, low) in
     let next : suc n ≡ n + 1 = omega arith in
     ap (λ k. first_from k (32 - k) p) next
-    ∙ not_here n p less (fails n (omega arith)) ∙ passed_over n p less (λ k under. fails k (omega (arith, under)))
-
-no_second : (a : Bool) → (a && false) ≡ false
-no_second true = refl
-no_second false = refl
+    ∙ not_here n 32 p less (fails n (omega arith)) ∙ passed_over n p less (λ k under. fails k (omega (arith, under)))
 
 -- of two words without a bit in common, the one has none that the other has
 apart_bits : (u w b : ℕ) → min b (max u w) ≡ 0 → ((u == 1 || w == 1) && (b == 1)) ≡ false
@@ -108,4 +110,4 @@ least_waits i pending waiting touched n names word none low set below =
     let test : ℕ → Bool = λ register. involves (Some i) register && waits_for pending register in
     sym (first_fails 0 31 test (rw (← names) (no_second (involves (Some i) 0))))
     ∙ sym (passed_over n test low (λ k under. apart_at i pending waiting touched k names word (below k under)))
-    ∙ here_first n test low (shared_at i pending waiting touched n names word none set)
+    ∙ here_first n 32 test low (shared_at i pending waiting touched n names word none set)

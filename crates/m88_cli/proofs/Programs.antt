@@ -3,8 +3,8 @@ use Rattle.std.proofs.Common.{◌≡◌, ℕ, Bool, List, Option, ap, sym, ◌�
 use Rattle.m88_base.specs.Image.{IsImage, ProgramImage, byte_at}
 use Rattle.m88_isa.specs.ImageProgram.{IsInstructionAt}
 use Rattle.m88_isa.specs.Machine.{Program}
-use Rattle.m88_codec.proofs.Laws.{program_in, program_in_holds, program_in_mxm}
-use Rattle.m88_asm.proofs.Laws.{Held, one_at, same_program}
+use Rattle.m88_codec.proofs.Laws.{one_at, program_in, program_in_holds, program_in_mxm}
+use Rattle.m88_asm.proofs.Laws.{Held, same_program}
 use Rattle.m88_srec.proofs.Laws.{verdict_takes}
 use Rattle.m88_srec.specs.Accepted.{IsAccepted, Whole, whole_of}
 use Rattle.m88_cli.specs.Answer.Runs.{IsLoadedProgram}

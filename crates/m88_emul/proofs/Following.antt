@@ -1,5 +1,5 @@
 -- A move of a board, and what software makes of it, take what a moment looks like to what the next looks like.
-use Rattle.std.specs.Prelude.{ℕ, zero, suc, Bool, true, false, not, List, [], ◌∷◌, ◌++◌, Option, Some, None, ◌≡◌, ◌<◌, ◌≤◌, ◌+◌, ◌==◌, ◌&&◌, ◌||◌, drop, is_some, length, map, if◌then◌else◌}
+use Rattle.std.specs.Prelude.{ℕ, Bool, true, false, not, List, [], ◌∷◌, ◌++◌, Option, Some, None, ◌≡◌, ◌<◌, ◌≤◌, ◌+◌, ◌==◌, ◌&&◌, ◌||◌, drop, is_some, length, map, if◌then◌else◌}
 use Rattle.std.proofs.Common.{arith, add-one, refl, sym, ap, subst, ◌∙◌}
 use Rattle.std.proofs.Math.Path.{fun_ext}
 use Rattle.std.proofs.lemmas.List.{append-nil, drop-append-le, drop_all, length-drop}
@@ -12,6 +12,7 @@ use Rattle.m88_isa.specs.History.{after_turn, completed_state, turn_accesses}
 use Rattle.m88_isa.specs.Machine.{IsProgram, Program, Stop, Turn, changes, opening, outputs, stops, turn_at}
 use Rattle.m88_isa.specs.Memory.{access_of}
 use Rattle.m88_isa.specs.declared.planned.Access.{Access}
+use Rattle.m88_event.proofs.Laws.{all_absent, some_left, split_drop, supplied_more}
 use Rattle.m88_event.specs.Choice.{Choice, answer_choice, end_by, evicts, faults, finishes, holds, idles, issue_choice, issues, next_choice, passes, replies, serves, touches_page, turn_choice}
 use Rattle.m88_event.specs.Local.{Local, choice_by, move, move_by, record_by, situation_of, with_move_counted}
 use Rattle.m88_event.specs.Shadow.{retired_pointer}
@@ -71,9 +72,6 @@ by_oldest : (p : Program) (m : Moment) (pending : List Access) (absent : ℕ →
     (1 ≤ length pending → m.done < length (transactions_before p m.retired)) → Fits p m (answer_choice pending absent)
 by_oldest p m [] absent h = tt
 by_oldest p m (x ∷ xs) absent h = by_page p m (absent (page_number x.addr)) (h (omega arith))
-
-some_left : (xs : List Access) (n : ℕ) → 1 ≤ length (drop n xs) → n < length xs
-some_left xs n h = let e = length-drop n xs in omega (arith, e)
 
 pub fits : (p : Program) (named : ℕ → Bool) (limit : ℕ) (letter : Letter) (m : Moment) → Fits p m (choice_by p limit letter (seen_at p named m))
 unfolding situation_of seen_at completed_state
@@ -168,18 +166,6 @@ going : (ended : Bool) (end other : End) → ended ≡ false → (if ended then 
 going true end other h = absurd cc
 going false end other h = refl
 
--- a page is absent that was and isn't supplied now
-supplied_more : (named supplied touched : Bool) → (named && not supplied) && not touched ≡ named && not (supplied || touched)
-supplied_more true true touched = refl
-supplied_more true false touched = refl
-supplied_more false true touched = refl
-supplied_more false false touched = refl
-
--- every page is absent where none was supplied
-all_absent : (page : Bool) → page ≡ page && not false
-all_absent true = refl
-all_absent false = refl
-
 -- software leaves what it has no aid for
 left : (p : Program) (named : ℕ → Bool) (m : Moment) (l : Local) → IsProgram p → NoAid (extended_end p m) (deed_at p (extended_state p m.retired)) →
     settled_by (extended_end p m) (deed_seen p (seen_at p named m)) l ≡ l
@@ -222,11 +208,6 @@ finished_by p named x stop (aided vector aid) is d single e lives =
       answers = m.answers;
       records = m.records;
     }
-
-split_drop : (done : ℕ) (xs : List Access) → drop 1 (drop done xs) ≡ drop (suc done) xs
-split_drop zero xs = refl
-split_drop (suc done) [] = refl
-split_drop (suc done) (x ∷ xs) = split_drop done xs
 
 -- a turn that goes on, made by the machine alone
 goes_by : (p : Program) (named : ℕ → Bool) (x : ExtendedMoment) (t : Turn) (bubble : Bool) → IsProgram p → LiesBehind p x.moment →

@@ -1,14 +1,14 @@
 -- The extended history in bytes and in words are one.
-use Rattle.std.specs.Prelude.{ℕ, zero, suc, Bool, true, false, List, [], ◌∷◌, ◌++◌, Option, Some, None, IfSome, ◌≡◌, ◌<◌, ◌+◌, ◌^◌, ◌&&◌, map, nat_le, nat_lt, unwrap_or, if◌then◌else◌}
+use Rattle.std.specs.Prelude.{ℕ, zero, suc, Bool, true, false, List, [], ◌∷◌, ◌++◌, Option, Some, None, IfSome, ◌≡◌, ◌+◌, map, if◌then◌else◌}
 use Rattle.std.proofs.Common.{arith, inl, refl, sym, ap, ◌∙◌}
 use Rattle.std.proofs.Math.Path.{fun_ext}
 use Rattle.m88_base.specs.declared.reg.Reg.{Reg}
-use Rattle.m88_isa.proofs.Laws.{by_test, touch_loads, touch_stores, touches_bytes}
+use Rattle.m88_isa.proofs.Laws.{byte_stored, opening_bytes, touch_loads, touch_stores, turn_bytes}
 use Rattle.m88_isa.specs.Address.{address, after_bytes}
 use Rattle.m88_isa.specs.Bus.{bus_after, bus_after_all, in_words, loaded, stored}
 use Rattle.m88_isa.specs.Effect.{register}
 use Rattle.m88_isa.specs.Lanes.{AreBytes, number_at, stored_at}
-use Rattle.m88_isa.specs.Machine.{IsProgram, Program, State, Turn, by_vector, changes, exits, opening, outputs, state_after, stepped, stops}
+use Rattle.m88_isa.specs.Machine.{IsProgram, Program, State, Turn, by_vector, changes, exits, outputs, stops}
 use Rattle.m88_isa.specs.Memory.{Touch, access_of, load, size_of}
 use Rattle.m88_isa.specs.Operands.{no_register, register_after}
 use Rattle.m88_isa.specs.declared.instr.Instr.{Instr}
@@ -45,11 +45,6 @@ single_bytes : (value : ℕ) (places : List ℕ) → AreSingle (byte_stores valu
 unfolding byte_stores
 single_bytes value [] = tt
 single_bytes value (a ∷ places) = (refl, refl, single_bytes value places)
-
-byte_stored : (memory : ℕ → ℕ) (place size value : ℕ) → AreBytes memory → AreBytes (stored_at memory place size value)
-byte_stored memory place size value bytes a = by_test (nat_le place a && nat_lt a (place + size))
-    (λ inside. rw inside (omega arith))
-    (λ outside. rw outside (bytes a))
 
 all_bytes : (ts : List Touch) (memory : ℕ → ℕ) → AreBytes memory → AreBytes (stored_all ts memory)
 unfolding stored_all
@@ -125,20 +120,11 @@ single_deed (stops (exits at)) i regs memory = tt
 single_deed (stops (by_vector vector at)) i regs memory = single_found vector at _ (single_at i vector regs memory)
 
 -- memory stays bytes
-turn_bytes : (turn : Turn) (s : State) → AreBytes s.memory → AreBytes (state_after (stepped turn s) s).memory
-turn_bytes (changes change) s bytes = touches_bytes change.touches _ bytes
-turn_bytes (outputs byte) s bytes = bytes
-turn_bytes (stops stop) s bytes = bytes
-
 deed_bytes : (d : Deed) (s : State) → AreBytes s.memory → AreBytes (after_deed d s).memory
 deed_bytes (alone turn) s bytes = turn_bytes turn s bytes
 deed_bytes (aided vector aid) s bytes = all_bytes aid.stores s.memory bytes
 
-byte_there : (byte : Option ℕ) → IfSome byte (λ b. b < 2 ^ 8) → unwrap_or byte 0 < 2 ^ 8
-byte_there None h = omega arith
-byte_there (Some b) h = h
-
 pub state_bytes : (p : Program) (n : ℕ) → IsProgram p → AreBytes (extended_state p n).memory
-unfolding extended_state opening
-state_bytes p zero is = λ a. byte_there (p.byte a) (is.bytes a)
+unfolding extended_state
+state_bytes p zero is = opening_bytes p is
 state_bytes p (suc n) is = deed_bytes (deed_at p (extended_state p n)) (extended_state p n) (state_bytes p n is)

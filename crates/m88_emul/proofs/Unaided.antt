@@ -2,7 +2,7 @@
 use Rattle.std.specs.Prelude.{ℕ, zero, suc, Bool, true, false, List, [], ◌∷◌, ◌++◌, Option, Some, None, ◌≡◌, ◌≤◌, ◌+◌, ◌==◌, ◌&&◌, ◌||◌, ◌-◌, drop, length, map, nat_lt, take, unwrap_or, if◌then◌else◌}
 use Rattle.std.proofs.Common.{arith, refl, sym, ap, ap₂, subst, ◌∙◌}
 use Rattle.std.proofs.lemmas.Bool.{eqb-false, eqb-true, ltb-false, ltb-true}
-use Rattle.m88_isa.proofs.Laws.{by_test}
+use Rattle.m88_isa.proofs.Laws.{by_test, second_of}
 use Rattle.m88_isa.specs.Bus.{bus_after, bus_after_all, changed_words, in_words}
 use Rattle.m88_isa.specs.Held.{instruction_at, is_stop}
 use Rattle.m88_isa.specs.History.{completed_state, pending_at, transaction_count, transactions, turn_accesses}
@@ -355,10 +355,6 @@ over_by : (p : Program) (limit : ℕ) (m : Moment) (ended : Bool) → m.ended �
     (m.ended ≡ true → IsAlone (deed_at p (state p m.retired))) → (ended || m.retired == limit) ≡ true → IsUnaided p limit
 over_by p limit m true is past none here idle = ended_unaided p m.retired limit none (past.ended is).next (here is)
 over_by p limit m false is past none here idle = subst (IsUnaided p) (eqb-true m.retired limit idle) none
-
-second_of : (a b : Bool) → (a && b) ≡ true → b ≡ true
-second_of true b h = h
-second_of false b h = absurd cc
 
 none_listed : (p : Program) (named : ℕ → Bool) (limit : ℕ) (schedule : List Letter) (o : EmulOutcome) →
     IsExtendedOutcome p named limit schedule o → o.emulated ≡ [] → IsUnaided p limit

@@ -1,22 +1,16 @@
 -- Along the letters of a run, from its opening to the moment at which it is over.
-use Rattle.std.specs.Prelude.{ℕ, suc, Bool, true, false, not, List, [], ◌∷◌, ◌++◌, Some, None, ◌≡◌, ◌≢◌, ◌≤◌, ◌-◌, ◌==◌, ◌&&◌, ◌||◌, drop, is_some, length, if◌then◌else◌}
-use Rattle.std.proofs.Common.{arith, refl, sym, ap, ap₂, ◌∙◌, subst}
-use Rattle.std.proofs.lemmas.Bool.{eqb-false, eqb-true}
-use Rattle.std.proofs.lemmas.Bool.Decides.{nat_tests}
-use Rattle.std.proofs.lemmas.List.{length-drop}
-use Rattle.m88_event.proofs.Laws.{one_first}
+use Rattle.std.specs.Prelude.{ℕ, suc, Bool, true, false, List, [], ◌++◌, ◌≡◌, ◌==◌, ◌&&◌, ◌||◌}
+use Rattle.std.proofs.Common.{arith, refl, sym, ap, ap₂, ◌∙◌}
+use Rattle.m88_board.proofs.Laws.{not_yet}
+use Rattle.m88_event.proofs.Laws.{ended_seen, none_left, one_first}
 use Rattle.m88_event.specs.Letters.{letter_at}
 use Rattle.m88_event.specs.Local.{Local, is_over_by, local_at, move}
 use Rattle.m88_event.specs.Run.{NotBefore, outcome_by}
 use Rattle.m88_event.specs.Timeline.{Moment, end_of_turn, opening_moment, xip_at}
-use Rattle.m88_event.specs.declared.happened.End.{End}
 use Rattle.m88_event.specs.declared.letter.Letter.{Letter}
-use Rattle.m88_isa.proofs.Laws.{by_test}
 use Rattle.m88_isa.specs.Bus.{bus_after_all, in_words}
-use Rattle.m88_isa.specs.Held.{is_pending}
 use Rattle.m88_isa.specs.History.{completed_state, transactions}
 use Rattle.m88_isa.specs.Machine.{IsProgram, Program, opening, state, turn_at}
-use Rattle.m88_isa.specs.declared.planned.Access.{Access}
 use Rattle.m88_emul.proofs.Following.{joins, law}
 use Rattle.m88_emul.proofs.Standing.{stands_first, stands_on}
 use Rattle.m88_emul.specs.Extended.{bus_after_work, extended_state, transacted, transactions_before, work_before}
@@ -54,17 +48,6 @@ unfolding local_at transactions
 opens_empty p named l opens = ap (λ (x : Local). x.pending) opens
 
 -- whether a run is over is seen
-none_left : (done : ℕ) (xs : List Access) → done ≤ length xs → not (is_pending (drop done xs)) ≡ (done == length xs)
-none_left done xs within = by_left (drop done xs) (length-drop done xs)
-  where
-    by_left : (left : List Access) → length left ≡ length xs - done → not (is_pending left) ≡ (done == length xs)
-    by_left [] e = let all : done ≡ length xs = omega (arith, e, within) in grind (arith, nat_tests)
-    by_left (x ∷ left) e = let some : done ≢ length xs = omega (arith, e) in grind (arith, nat_tests)
-
-ended_seen : (ended : Bool) (end : End) → is_some (if ended then Some end else None) ≡ ended
-ended_seen true end = refl
-ended_seen false end = refl
-
 pub over_seen : (p : Program) (named : ℕ → Bool) (limit : ℕ) (m : Moment) → LiesBehind p m →
     is_over_by limit (seen_at p named m) ≡ is_extended_over p limit m
 unfolding seen_at
@@ -80,11 +63,6 @@ over_there p named limit schedule k l emulated there =
     ∙ ap (is_over_by limit) (sym there.seen)
 
 -- one event more
-not_yet : (halts : ℕ → Bool) (k : ℕ) → NotBefore halts k → halts k ≡ false → NotBefore halts (suc k)
-not_yet halts k none here = λ j h. by_test (j == k)
-    (λ same. subst (λ (n : ℕ). halts n ≡ false) (sym (eqb-true j k same)) here)
-    (λ other. let apart = eqb-false j k other in none j (omega (arith, h, apart)))
-
 pub there_next : (p : Program) (named : ℕ → Bool) (limit : ℕ) (schedule : List Letter) (k : ℕ) (l new : Local)
     (emulated more : List Emulation) → IsProgram p → IsThere p named limit schedule k l emulated → is_over_by limit l ≡ false →
     new ≡ settled p (move p limit (letter_at schedule k) l) →

@@ -1,12 +1,11 @@
 -- Worked runs of a machine with software behind it, computed by the definitions: what each comes to is what the rules give
 -- by hand. No proof cites them; a definition that is changed must still give them.
 use Rattle.std.specs.Prelude.{ℕ, Bool, true, false, List, [], ◌∷◌, Option, Some, None, ◌≡◌, ◌+◌, ◌-◌, ◌*◌, ◌/◌, ◌==◌, ◌&&◌, length, map, nat_le, nat_lt, pos, slice_get, unwrap_or, if◌then◌else◌}
-use Rattle.std.proofs.Common.{arith, refl}
+use Rattle.std.proofs.Common.{refl}
 use Rattle.m88_base.specs.Pages.{every_page, no_page}
 use Rattle.m88_base.specs.Reg.{reg_of}
 use Rattle.m88_base.specs.RegisterSet as set
 use Rattle.m88_base.specs.Triple.{no_triple}
-use Rattle.m88_isa.proofs.Laws.{none_from}
 use Rattle.m88_isa.specs.Bus.{bus_after_all, in_words, stored, waits_for, with_word}
 use Rattle.m88_isa.specs.Held.{busy_register, first_from}
 use Rattle.m88_isa.specs.History.{completed_state}
@@ -17,9 +16,8 @@ use Rattle.m88_isa.specs.declared.instr.Instr.{Instr}
 use Rattle.m88_isa.specs.declared.instr.Instr.TheVariants as instr
 use Rattle.m88_isa.specs.declared.instr.MemOp.{MemOp}
 use Rattle.m88_isa.specs.declared.instr.MemOp.TheVariants as memop
-use Rattle.m88_isa.specs.declared.instr.RegOp.{RegOp}
 use Rattle.m88_isa.specs.declared.instr.RegOp.TheVariants as regop
-use Rattle.m88_event.proofs.Laws.{fault, im, mem, triple}
+use Rattle.m88_event.proofs.Laws.{fault, first_after, im, mem, regs, set_from, triple}
 use Rattle.m88_event.specs.Letters.{letter_at}
 use Rattle.m88_event.specs.Local.{situation_of}
 use Rattle.m88_event.specs.Run.{IsFirst}
@@ -45,11 +43,6 @@ program code bytes = record {
       else if nat_le 0x2000 a then slice_get bytes (a - 0x2000) else None;
   instruction = λ a. unwrap_or (slice_get code ((a - 0x1000) / 4)) None;
 }
-
--- the registers that aren't 0, each with its number
-abbrev set_from : ℕ → List ℕ → List (ℕ × ℕ)
-set_from n [] = []
-set_from n (value ∷ values) = if value == 0 then set_from (n + 1) values else (n, value) ∷ set_from (n + 1) values
 
 -- what a run comes to: its end, the instructions retired, the registers that aren't 0, some words of the memory of the
 -- history and of the data bus, the events, the transactions answered, the records, and the emulations
@@ -126,9 +119,6 @@ HaveEvents (w ∷ runs) = IsFirst (over_at w) w.comes.events × HaveEvents runs
 -- instructions and emulations in short
 abbrev based : MemOp → ℕ → ℕ → ℕ → Option Instr
 based op d s1 imm = Some (instr.MemImm op (reg_of d) (reg_of s1) imm)
-
-abbrev regs : RegOp → ℕ → ℕ → ℕ → Option Instr
-regs op d s1 s2 = Some (instr.Regs op (reg_of d) (reg_of s1) (reg_of s2))
 
 abbrev emulation : ℕ → ℕ → ℕ → Emulation
 emulation event at vector = record { event = event; at = at; vector = vector }
@@ -335,13 +325,6 @@ delayed = record {
 
 worked : List Worked
 worked = divided ∷ loaded ∷ supplied ∷ waited ∷ around ∷ between ∷ rounded ∷ sized ∷ delayed ∷ []
-
--- so many events are the first at which a condition holds
-first_after : (holds : ℕ → Bool) (events : ℕ) → first_from 0 events holds ≡ None → holds events ≡ true → IsFirst holds events
-first_after holds events none here = record {
-  here = here;
-  first = λ k less. none_from 0 events holds k none (omega arith) (omega (arith, less));
-}
 
 -- so of each run
 each_after : (runs : List Worked) → map over_before runs ≡ map (λ w. None) runs → map over_then runs ≡ map (λ w. true) runs →

@@ -32,7 +32,7 @@ Spends may_stay limit l replies = 1 ≤ length l.pending
 Spends may_stay limit l faults = 1 ≤ length l.pending
 Spends may_stay limit l evicts = may_stay ≡ true
 
-one_at_most : (mark : Bool) → one_if mark ≤ 1
+pub one_at_most : (mark : Bool) → one_if mark ≤ 1
 one_at_most true = omega arith
 one_at_most false = omega arith
 
@@ -327,7 +327,7 @@ answered_lessens p limit schedule k l some =
     rw some (omega (arith, fuels, phases))
 
 -- the weight of what is seen of any board
-least_of : (mark : Bool) (n : ℕ) → (mark ≡ true → 1 ≤ n) → one_if mark ≤ n
+pub least_of : (mark : Bool) (n : ℕ) → (mark ≡ true → 1 ≤ n) → one_if mark ≤ n
 least_of true n h = h refl
 least_of false n h = omega arith
 

@@ -23,7 +23,7 @@ use Rattle.m88_event.specs.declared.letter.Letter.TheVariants.{Issue, Answer, Ev
 use Rattle.m88_event.specs.declared.record.Record.{Record}
 
 -- whether the program has ended is seen
-ended_seen : (ended : Bool) (end : End) → is_some (if ended then Some end else None) ≡ ended
+pub ended_seen : (ended : Bool) (end : End) → is_some (if ended then Some end else None) ≡ ended
 ended_seen true end = refl
 ended_seen false end = refl
 
@@ -86,7 +86,7 @@ by_oldest : (p : Program) (m : Moment) (pending : List Access) (absent : ℕ →
 by_oldest p m [] absent h = tt
 by_oldest p m (x ∷ xs) absent h = by_page p m (absent (page_number x.addr)) (h (omega arith))
 
-some_left : (xs : List Access) (n : ℕ) → 1 ≤ length (drop n xs) → n < length xs
+pub some_left : (xs : List Access) (n : ℕ) → 1 ≤ length (drop n xs) → n < length xs
 some_left xs n h = let e = length-drop n xs in omega (arith, e)
 
 pub fits : (p : Program) (named : ℕ → Bool) (limit : ℕ) (letter : Letter) (m : Moment) →
@@ -129,12 +129,12 @@ split_take zero xs = refl
 split_take (suc done) [] = refl
 split_take (suc done) (x ∷ xs) = ap (λ ys. x ∷ ys) (split_take done xs)
 
-split_drop : (done : ℕ) (xs : List Access) → drop 1 (drop done xs) ≡ drop (suc done) xs
+pub split_drop : (done : ℕ) (xs : List Access) → drop 1 (drop done xs) ≡ drop (suc done) xs
 split_drop zero xs = refl
 split_drop (suc done) [] = refl
 split_drop (suc done) (x ∷ xs) = split_drop done xs
 
-answered_bus : (p : Program) (n done : ℕ) → bus_after_all (take 1 (pending_at p n done)) (bus_at p n done) ≡ bus_at p n (done + 1)
+pub answered_bus : (p : Program) (n done : ℕ) → bus_after_all (take 1 (pending_at p n done)) (bus_at p n done) ≡ bus_at p n (done + 1)
 answered_bus p n done = rw add-one (
     sym (bus_of_append (take done (transactions p n)) (take 1 (pending_at p n done)) (in_words (opening p).memory))
     ∙ ap (λ xs. bus_after_all xs (in_words (opening p).memory)) (sym (split_take done (transactions p n))))
@@ -145,14 +145,15 @@ finished_bus p n done =
     sym (bus_of_append (take done (transactions p n)) (pending_at p n done) (in_words (opening p).memory))
     ∙ ap (λ xs. bus_after_all xs (in_words (opening p).memory)) (take-append-drop done (transactions p n) ∙ sym (take_all (transaction_count p n) (transactions p n) (omega arith)))
 
-finished_absent : (named supplied touched : Bool) → (named && not supplied) && not touched ≡ named && not (supplied || touched)
-finished_absent true true touched = refl
-finished_absent true false touched = refl
-finished_absent false true touched = refl
-finished_absent false false touched = refl
+-- a page is absent that was and isn't supplied now
+pub supplied_more : (named supplied touched : Bool) → (named && not supplied) && not touched ≡ named && not (supplied || touched)
+supplied_more true true touched = refl
+supplied_more true false touched = refl
+supplied_more false true touched = refl
+supplied_more false false touched = refl
 
 -- every page is absent where none was supplied
-all_absent : (page : Bool) → page ≡ page && not false
+pub all_absent : (page : Bool) → page ≡ page && not false
 all_absent true = refl
 all_absent false = refl
 
@@ -243,7 +244,7 @@ by_choice p named m faults fault bytes kept fit =
     let pending = sym (drop_all (m.done + length (pending_at p m.retired m.done)) (transactions p m.retired) (omega (arith, done))) in
     let absent : (λ page. absent_at named m page && not (touches_page (pending_at p m.retired m.done) page))
     ≡ (λ page. (if m.evicted then every_page page else named page) && not (m.supplied page || touches_page (pending_at p m.retired m.done) page)) =
-    fun_ext (λ page. finished_absent (if m.evicted then every_page page else named page) (m.supplied page) (touches_page (pending_at p m.retired m.done) page)) in
+    fun_ext (λ page. supplied_more (if m.evicted then every_page page else named page) (m.supplied page) (touches_page (pending_at p m.retired m.done) page)) in
     λ i. record {
       completed = completed_state (state p m.retired);
       bus = bus i;

@@ -1,13 +1,13 @@
 -- The moment at which a run is over: what is seen of it, that there is one and no other, and what its memory is.
-use Rattle.std.specs.Prelude.{ℕ, zero, suc, Bool, true, false, not, List, [], ◌∷◌, ◌≡◌, ◌≢◌, ◌<◌, ◌≤◌, ◌⊎◌, ◌+◌, ◌-◌, ◌*◌, ◌==◌, ◌&&◌, ◌||◌, drop, length, nat_lt}
+use Rattle.std.specs.Prelude.{ℕ, zero, suc, Bool, true, false, not, List, [], ◌∷◌, None, ◌≡◌, ◌≢◌, ◌<◌, ◌≤◌, ◌⊎◌, ◌+◌, ◌-◌, ◌*◌, ◌==◌, ◌&&◌, ◌||◌, drop, length, nat_lt}
 use Rattle.std.proofs.Common.{arith, add-one, refl, sym, ap, ap₂, ◌∙◌, subst, inl, inr}
 use Rattle.std.proofs.lemmas.Bool.{eqb-false, eqb-true, ltb-false, ltb-true}
 use Rattle.std.proofs.lemmas.Bool.Decides.{nat_tests}
 use Rattle.std.proofs.lemmas.List.{length-drop, take_all}
-use Rattle.m88_isa.proofs.Laws.{by_test, state_bus}
+use Rattle.m88_isa.proofs.Laws.{by_test, none_from, state_bus}
 use Rattle.m88_base.specs.Pages.{page_number}
 use Rattle.m88_isa.specs.Bus.{bus_after_all, in_words}
-use Rattle.m88_isa.specs.Held.{is_pending}
+use Rattle.m88_isa.specs.Held.{first_from, is_pending}
 use Rattle.m88_isa.specs.History.{bus_at, completed_state, pending_at, transaction_count, transactions}
 use Rattle.m88_isa.specs.Machine.{IsProgram, Program, opening, state}
 use Rattle.m88_isa.specs.declared.planned.Access.{Access}
@@ -25,7 +25,7 @@ use Rattle.m88_event.specs.declared.outcome.Outcome.{Outcome}
 use Rattle.m88_event.specs.declared.record.Record.{Record}
 
 -- nothing is pending exactly where all transactions are done
-none_left : (done : ℕ) (xs : List Access) → done ≤ length xs → not (is_pending (drop done xs)) ≡ (done == length xs)
+pub none_left : (done : ℕ) (xs : List Access) → done ≤ length xs → not (is_pending (drop done xs)) ≡ (done == length xs)
 none_left done xs within = by_left (drop done xs) (length-drop done xs)
   where
     by_left : (left : List Access) → length left ≡ length xs - done → not (is_pending left) ≡ (done == length xs)
@@ -83,6 +83,13 @@ one_first holds a b x y = by_test (nat_lt a b)
     (λ more. by_test (nat_lt b a)
     (λ less. absurd (let here = y.here in let no = x.first b (ltb-true b a less) in cc))
     (λ most. omega (arith, ltb-false a b more, ltb-false b a most)))
+
+-- so many events are the first at which a condition holds
+pub first_after : (holds : ℕ → Bool) (events : ℕ) → first_from 0 events holds ≡ None → holds events ≡ true → IsFirst holds events
+first_after holds events none here = record {
+  here = here;
+  first = λ k less. none_from 0 events holds k none (omega arith) (omega (arith, less));
+}
 
 -- a run comes to one outcome
 pub one_outcome : (p : Program) (named : ℕ → Bool) (limit : ℕ) (schedule : List Letter) (a b : Outcome) →

@@ -17,6 +17,7 @@ use Rattle.m88_isa.specs.declared.instr.Instr.{Instr}
 use Rattle.m88_isa.specs.declared.instr.Instr.TheVariants as instr
 use Rattle.m88_isa.specs.declared.instr.MemOp.{MemOp}
 use Rattle.m88_isa.specs.declared.instr.MemOp.TheVariants as memop
+use Rattle.m88_isa.specs.declared.instr.RegOp.{RegOp}
 use Rattle.m88_event.specs.Letters.{letter_at}
 use Rattle.m88_event.specs.Run.{moment_after, moment_along}
 use Rattle.m88_event.specs.Situation.{record_of}
@@ -54,7 +55,7 @@ named [] page = false
 named (p ∷ pages) page = p == page || named pages page
 
 -- the registers that aren't 0, each with its number
-abbrev set_from : ℕ → List ℕ → List (ℕ × ℕ)
+abbrev pub set_from : ℕ → List ℕ → List (ℕ × ℕ)
 set_from n [] = []
 set_from n (value ∷ values) = if value == 0 then set_from (n + 1) values else (n, value) ∷ set_from (n + 1) values
 
@@ -112,6 +113,9 @@ came w =
 -- instructions and words in short
 abbrev pub im : ImmOp → ℕ → ℕ → ℕ → Option Instr
 im op d s1 imm = Some (instr.Imm op (reg_of d) (reg_of s1) imm)
+
+abbrev pub regs : RegOp → ℕ → ℕ → ℕ → Option Instr
+regs op d s1 s2 = Some (instr.Regs op (reg_of d) (reg_of s1) (reg_of s2))
 
 abbrev pub mem : MemOp → ℕ → ℕ → Option Instr
 mem op d imm = Some (instr.MemImm op (reg_of d) (reg_of 0) imm)

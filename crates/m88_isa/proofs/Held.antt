@@ -70,9 +70,18 @@ unfolding first_from
 none_passes start zero test h = refl
 none_passes start (suc count) test h = rw (h start) (none_passes (start + 1) count test h)
 
-no_second : (a : Bool) → (a && false) ≡ false
+-- two tests don't both hold where the second fails, and where both hold, each does
+pub no_second : (a : Bool) → (a && false) ≡ false
 no_second true = refl
 no_second false = refl
+
+pub first_of : (a b : Bool) → (a && b) ≡ true → a ≡ true
+first_of true b h = refl
+first_of false b h = h
+
+pub second_of : (a b : Bool) → (a && b) ≡ true → b ≡ true
+second_of true b h = h
+second_of false b h = absurd cc
 
 none_busy_alone : (i : Option Instr) → busy_register i [] ≡ None
 unfolding busy_register waits_for

@@ -52,7 +52,7 @@ touch_stores t memory bytes aligned = fun_ext (λ a.
     (law.1 (word_address a + 3) (λ e. other (omega (arith, e)))))))
 
 -- memory stays bytes
-byte_stored : (memory : ℕ → ℕ) (place size value : ℕ) → AreBytes memory → AreBytes (stored_at memory place size value)
+pub byte_stored : (memory : ℕ → ℕ) (place size value : ℕ) → AreBytes memory → AreBytes (stored_at memory place size value)
 byte_stored memory place size value bytes a = by_test (nat_le place a && nat_lt a (place + size))
     (λ inside. rw inside (omega arith))
     (λ outside. rw outside (bytes a))
@@ -118,7 +118,7 @@ turn_agrees (outputs byte) s bytes aligned = refl
 turn_agrees (stops stop) s bytes aligned = refl
 
 -- memory stays bytes through a history
-turn_bytes : (turn : Turn) (s : State) → AreBytes s.memory → AreBytes (state_after (stepped turn s) s).memory
+pub turn_bytes : (turn : Turn) (s : State) → AreBytes s.memory → AreBytes (state_after (stepped turn s) s).memory
 turn_bytes (changes change) s bytes = touches_bytes change.touches _ bytes
 turn_bytes (outputs byte) s bytes = bytes
 turn_bytes (stops stop) s bytes = bytes
@@ -127,7 +127,7 @@ byte_there : (byte : Option ℕ) → IfSome byte (λ b. b < 2 ^ 8) → unwrap_or
 byte_there None h = omega arith
 byte_there (Some b) h = h
 
-opening_bytes : (p : Program) → IsProgram p → AreBytes (opening p).memory
+pub opening_bytes : (p : Program) → IsProgram p → AreBytes (opening p).memory
 unfolding opening
 opening_bytes p is a = byte_there (p.byte a) (is.bytes a)
 

@@ -21,6 +21,8 @@ pub use Rattle.m88_isa.proofs.Told.{told_of, valid_of}
 -- Memory in words: it holds bytes, and a load, a store, a turn and a whole history do to words what they do to bytes.
 pub use Rattle.m88_isa.proofs.InWords.{bus_of_append, cells_bus, state_agrees, state_bus, state_bytes, touch_loads}
 pub use Rattle.m88_isa.proofs.InWords.{touch_stores, touches_bytes, turn_agrees}
+-- it holds bytes at the opening, and still behind a store and behind a turn
+pub use Rattle.m88_isa.proofs.InWords.{byte_stored, opening_bytes, turn_bytes}
 -- the words that change between two memories: a word that is another comes last, and one that is the same adds nothing
 pub use Rattle.m88_isa.proofs.Changed.{other_among, same_among, same_word_among}
 -- Pending accesses: no two load one register, also behind those that are issued.
@@ -36,3 +38,5 @@ pub use Rattle.m88_isa.proofs.Held.{meaning_seen, nothing_held, written_waits_no
 -- Helps of proofs: the least number that passes a test, or none, and a fact by the two values of a test.
 pub use Rattle.m88_isa.proofs.Held.{none_from, none_passes, some_from}
 pub use Rattle.m88_isa.proofs.Alone.{by_test}
+-- two tests don't both hold where the second fails, and where both hold, each does
+pub use Rattle.m88_isa.proofs.Held.{first_of, no_second, second_of}

@@ -6,13 +6,12 @@ use Rattle.std.proofs.lemmas.Bool.{eqb-false, eqb-true}
 use Rattle.std.proofs.lemmas.Bool.Decides.{nat_tests}
 use Rattle.std.proofs.lemmas.List.Elements.{All-cons}
 use Rattle.m88_base.specs.Pages.{page_number}
-use Rattle.m88_isa.proofs.Laws.{bus_of_append}
+use Rattle.m88_isa.proofs.Laws.{bus_of_append, by_test}
 use Rattle.m88_isa.specs.Bus.{bus_after, bus_after_all, in_words, stored}
 use Rattle.m88_isa.specs.Memory.{IsWordAccess}
 use Rattle.m88_isa.specs.declared.planned.Access.{Access}
 use Rattle.std.specs.Map.{lookup}
 use Rattle.m88_pager.proofs.Flushing.{at_most_one}
-use Rattle.m88_pager.proofs.Layers.{by_test}
 use Rattle.m88_pager.proofs.Standing.{stands_written}
 use Rattle.m88_pager.proofs.Taking.{there_brought, without}
 use Rattle.m88_pager.proofs.Words.{pages_stay, words_stay, words_there}

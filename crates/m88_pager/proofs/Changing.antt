@@ -11,12 +11,11 @@ use Rattle.std.specs.Option.{option_copied}
 use Rattle.std.specs.Ordering.{nat_cmp}
 use Rattle.std.specs.declared.ops.Bound.TheVariants.{Excluded, Included}
 use Rattle.m88_base.specs.Pages.{page_count}
-use Rattle.m88_isa.proofs.Laws.{same_among}
+use Rattle.m88_isa.proofs.Laws.{by_test, same_among}
 use Rattle.m88_isa.specs.Bus.{changed_among, in_words}
 use Rattle.m88_isa.specs.Lanes.{AreBytes}
 use Rattle.m88_mem.specs.DataBus.{page_words}
 use Rattle.m88_pager.proofs.Coming.{none_there}
-use Rattle.m88_pager.proofs.Layers.{by_test}
 use Rattle.m88_pager.proofs.Words.{bytes_back, word_read, words_there}
 use Rattle.m88_pager.specs.Inside.Bytes.{AreWords, in_bytes}
 use Rattle.m88_pager.specs.Inside.Contents.{StandForMemory, behind, over}

@@ -3,7 +3,7 @@ use Rattle.std.specs.Prelude.{ℕ, zero, suc, Bool, List, [], ◌∷◌, Some, �
 use Rattle.std.proofs.Common.{refl, ap}
 use Rattle.std.proofs.lemmas.Option.{slice_get-map}
 use Rattle.std.specs.Map.{lookup, remove_entry}
-use Rattle.m88_pager.proofs.Layers.{by_test}
+use Rattle.m88_isa.proofs.Laws.{by_test}
 use Rattle.m88_pager.specs.Frames.{Frames, one_if_dirty, without_last}
 use Rattle.m88_pager.specs.Inside.Seen.{with_mark}
 use Rattle.m88_pager.specs.declared.frames.Frame.{Frame}

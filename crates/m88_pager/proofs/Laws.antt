@@ -1,6 +1,6 @@
 -- What those above may use of paged runs without a call: how many instructions a run retires depends on the program and
 -- the limit alone, whatever pages are absent and whatever the schedule.
-use Rattle.std.specs.Prelude.{ℕ, Bool, true, false, List, ◌≡◌, ◌<◌, ◌≤◌, ◌==◌, ◌&&◌, ◌||◌, nat_lt}
+use Rattle.std.specs.Prelude.{ℕ, Bool, true, false, List, ◌≡◌, ◌<◌, ◌≤◌, ◌==◌, ◌||◌, nat_lt}
 use Rattle.std.proofs.Common.{arith, refl, sym, ap, ◌∙◌}
 use Rattle.std.proofs.lemmas.Bool.{eqb-true, ltb-false, ltb-true}
 use Rattle.m88_event.proofs.Laws.{past_after}
@@ -9,7 +9,7 @@ use Rattle.m88_event.specs.Run.{IsOutcome, moment_after, outcome_at}
 use Rattle.m88_event.specs.Timeline.{Moment, is_drained, is_idle, is_over}
 use Rattle.m88_event.specs.declared.letter.Letter.{Letter}
 use Rattle.m88_event.specs.declared.outcome.Outcome.{Outcome}
-use Rattle.m88_isa.proofs.Laws.{by_test}
+use Rattle.m88_isa.proofs.Laws.{by_test, second_of}
 use Rattle.m88_isa.specs.Held.{is_stop}
 use Rattle.m88_isa.specs.Machine.{Program, state, turn_at}
 
@@ -35,10 +35,6 @@ one_stop p limit a b x y = by_test (nat_lt a b)
     (λ most. omega (arith, ltb-false a b more, ltb-false b a most)))
 
 -- the history stops where a run is over
-second_of : (a b : Bool) → (a && b) ≡ true → b ≡ true
-second_of true b h = h
-second_of false b h = absurd cc
-
 stop_by : (p : Program) (limit : ℕ) (m : Moment) (ended : Bool) → HasPast p limit m → m.ended ≡ ended →
     (ended || m.retired == limit) ≡ true →
     m.retired < limit →

@@ -11,13 +11,10 @@ use Rattle.std.specs.FinMap.{get, get-insert, insert}
 use Rattle.std.specs.List.{AllByRecursion, IsDistinct}
 use Rattle.std.specs.Map.{keys_of, lookup, remove_entry}
 use Rattle.std.specs.Ordering.{eq_by_cmp, nat_cmp}
+use Rattle.m88_isa.proofs.Laws.{by_test}
 use Rattle.m88_pager.specs.Inside.Contents.{AreClean, behind, is_dirty_in, over, with_new_page}
 use Rattle.m88_pager.specs.Store.{PageMap}
 use Rattle.m88_pager.specs.declared.frames.Frame.{Frame}
-
-pub by_test : {A : Type 0} (test : Bool) → (test ≡ true → A) → (test ≡ false → A) → A
-by_test true f g = f refl
-by_test false f g = g refl
 
 -- the last of a list
 last_at : {X : Type 0} (n : ℕ) (xs : List X) (x : X) → length xs ≡ suc n → slice_get xs n ≡ Some x → xs ≡ take n xs ++ (x ∷ [])

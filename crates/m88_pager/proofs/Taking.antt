@@ -8,9 +8,9 @@ use Rattle.std.proofs.lemmas.List.Elements.{All-cons}
 use Rattle.std.specs.Map.{lookup, lookup_entry, remove_entry, set_value}
 use Rattle.std.specs.Option.{option_map_or}
 use Rattle.lru.specs.LruCache.{LruCache, lru_cache, promoted, put_entries}
+use Rattle.m88_isa.proofs.Laws.{by_test}
 use Rattle.m88_pager.proofs.Counts.{frames_at, lookup_marked, removed_marked}
 use Rattle.m88_pager.proofs.Flushing.{whole_front}
-use Rattle.m88_pager.proofs.Layers.{by_test}
 use Rattle.m88_pager.proofs.Standing.{stands_come, stands_taken}
 use Rattle.m88_pager.specs.Frames.{Frames as FramesSeen, brought, brought_as, with_room}
 use Rattle.m88_pager.specs.Inside.Calls.{IsBrought}

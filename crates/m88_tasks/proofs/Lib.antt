@@ -5,7 +5,6 @@ pub mod RunAlone
 pub mod Choosing
 pub mod Sharing
 pub mod Past
-pub mod Searching
 pub mod Places
 pub mod Running
 pub mod Starting

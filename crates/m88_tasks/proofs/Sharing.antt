@@ -8,8 +8,8 @@ use Rattle.m88_isa.proofs.Laws.{by_test, twice_at_most}
 use Rattle.m88_isa.specs.Held.{is_pending}
 use Rattle.m88_isa.specs.History.{transactions}
 use Rattle.m88_isa.specs.Machine.{IsProgram, Program}
-use Rattle.m88_event.proofs.Laws.{fuel_stays, lessens, moves_as_seen, same_over}
-use Rattle.m88_event.specs.Bound.{fuel, one_if, turns_left, weight}
+use Rattle.m88_event.proofs.Laws.{fuel_stays, least_of, lessens, moves_as_seen, one_at_most, same_over}
+use Rattle.m88_event.specs.Bound.{fuel, turns_left, weight}
 use Rattle.m88_event.specs.Letters.{letter_at}
 use Rattle.m88_event.specs.Local.{Local, is_over_by, local_at}
 use Rattle.m88_event.specs.Past.{HasPast, IsBehindBranch}
@@ -238,14 +238,6 @@ less_left g schedule k s can = by_test (nat_lt k (length schedule))
     rw (outside_letter schedule k h) (outside_less g schedule k s.moments s.current can h))
 
 -- what all programs cost at first
-one_at_most : (mark : Bool) → one_if mark ≤ 1
-one_at_most true = omega arith
-one_at_most false = omega arith
-
-least_of : (mark : Bool) (n : ℕ) → (mark ≡ true → 1 ≤ n) → one_if mark ≤ n
-least_of true n h = h refl
-least_of false n h = omega arith
-
 behind_one : (p : Program) (n : ℕ) → IsBehindBranch p n → 1 ≤ n
 behind_one p n h = let last = h.last in omega (arith, last)
 

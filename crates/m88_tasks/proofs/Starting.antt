@@ -12,6 +12,7 @@ use Rattle.m88_isa.specs.Machine.{Program}
 use Rattle.m88_codec.proofs.Laws.{program_in, program_in_holds, program_in_mxm}
 use Rattle.m88_event.specs.Timeline.{opening_moment}
 use Rattle.m88_mem.specs.Marks.{absent_in}
+use Rattle.m88_board.proofs.Laws.{here_first}
 use Rattle.m88_board.specs.Board.{BoardView}
 use Rattle.m88_board.specs.Contexts.{StandsFor}
 use Rattle.m88_board.specs.Kept.{most_retired}
@@ -20,7 +21,6 @@ use Rattle.m88_board.specs.declared.context.Context.{Context}
 use Rattle.m88_tasks.proofs.Choosing.{none_below}
 use Rattle.m88_tasks.proofs.Past.{past_first}
 use Rattle.m88_tasks.proofs.Running.{at_last, in_front}
-use Rattle.m88_tasks.proofs.Searching.{here_first}
 use Rattle.m88_tasks.specs.Shared.{Group, first_alive, opening_shared, over_at}
 use Rattle.m88_tasks.specs.Tasks.{ArePrograms, AreSomePrograms, AreTasks, IsGroupOf, IsPlaceAt, IsTasksAt, ProgramsView, most_programs}
 use Rattle.m88_tasks.specs.declared.shared.Switch.{Switch}

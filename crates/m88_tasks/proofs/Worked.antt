@@ -1,12 +1,10 @@
 -- Worked runs of programs that share a board, computed by the definitions: what each comes to is what the rules of
 -- sharing give by hand. No proof cites them; a definition that is changed must still give them.
 use Rattle.std.specs.Prelude.{ℕ, zero, suc, Bool, true, false, List, [], ◌∷◌, ◌++◌, Option, Some, None, ◌≡◌, ◌+◌, ◌-◌, ◌*◌, ◌/◌, ◌==◌, ◌&&◌, length, map, nat_le, nat_lt, pos, slice_get, unwrap_or, if◌then◌else◌}
-use Rattle.std.proofs.Common.{arith, refl}
+use Rattle.std.proofs.Common.{refl}
 use Rattle.m88_base.specs.Pages.{no_page}
-use Rattle.m88_base.specs.Reg.{reg_of}
 use Rattle.m88_base.specs.RegisterSet as set
 use Rattle.m88_base.specs.Triple.{no_triple}
-use Rattle.m88_isa.proofs.Laws.{none_from}
 use Rattle.m88_isa.specs.Bus.{in_words, waits_for}
 use Rattle.m88_isa.specs.Held.{busy_register, first_from}
 use Rattle.m88_isa.specs.History.{transactions}
@@ -16,10 +14,9 @@ use Rattle.m88_isa.specs.declared.instr.ImmOp.TheVariants as immop
 use Rattle.m88_isa.specs.declared.instr.Instr.{Instr}
 use Rattle.m88_isa.specs.declared.instr.Instr.TheVariants as instr
 use Rattle.m88_isa.specs.declared.instr.MemOp.TheVariants as memop
-use Rattle.m88_isa.specs.declared.instr.RegOp.{RegOp}
 use Rattle.m88_isa.specs.declared.instr.RegOp.TheVariants as regop
-use Rattle.m88_event.proofs.Laws.{fault, im, mem, triple}
-use Rattle.m88_event.specs.Run.{IsFirst, outcome_at}
+use Rattle.m88_event.proofs.Laws.{fault, first_after, im, mem, regs, set_from, triple}
+use Rattle.m88_event.specs.Run.{outcome_at}
 use Rattle.m88_event.specs.Situation.{record_of}
 use Rattle.m88_event.specs.Timeline.{after_letter, situation_at, xip_at}
 use Rattle.m88_event.specs.declared.happened.End.{End}
@@ -58,15 +55,6 @@ program code = record {
   byte = λ a. if nat_le 0x1000 a && nat_lt a (0x1000 + 4 * length code) then Some 0 else None;
   instruction = λ a. unwrap_or (slice_get code ((a - 0x1000) / 4)) None;
 }
-
--- an instruction on two registers in short
-abbrev regs : RegOp → ℕ → ℕ → ℕ → Option Instr
-regs op d s1 s2 = Some (instr.Regs op (reg_of d) (reg_of s1) (reg_of s2))
-
--- the registers that aren't 0, each with its number
-abbrev set_from : ℕ → List ℕ → List (ℕ × ℕ)
-set_from n [] = []
-set_from n (value ∷ values) = if value == 0 then set_from (n + 1) values else (n, value) ∷ set_from (n + 1) values
 
 -- what a program comes to: its end, the instructions retired, the registers that aren't 0, its events, the transactions
 -- answered, and the records
@@ -290,13 +278,6 @@ idle = record {
 
 worked : List Worked
 worked = divided ∷ held ∷ cycled ∷ apart ∷ idle ∷ []
-
--- so many events are the first at which a condition holds
-first_after : (holds : ℕ → Bool) (events : ℕ) → first_from 0 events holds ≡ None → holds events ≡ true → IsFirst holds events
-first_after holds events none here = record {
-  here = here;
-  first = λ k less. none_from 0 events holds k none (omega arith) (omega (arith, less));
-}
 
 -- so of each run
 each_after : (runs : List Worked) → map over_before runs ≡ map (λ w. None) runs → map over_then runs ≡ map (λ w. true) runs →

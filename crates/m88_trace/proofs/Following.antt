@@ -1,11 +1,11 @@
 -- A follower goes from a state of the history to the next.
-use Rattle.std.specs.Prelude.{ℕ, suc, Bool, true, false, List, [], ◌++◌, Option, Some, None, MatchOption, IfOk, OnOk, Result, Ok, Err, ◌≡◌, ◌<◌, ◌+◌, ◌%◌, ◌^◌, option_map, replicate, unwrap_or}
+use Rattle.std.specs.Prelude.{ℕ, suc, Bool, true, false, List, [], ◌++◌, Option, Some, None, IfOk, OnOk, Result, Ok, Err, ◌≡◌, ◌<◌, ◌+◌, ◌%◌, ◌^◌, option_map, replicate, unwrap_or}
 use Rattle.std.specs.Int.{from_be_bytes, to_be_bytes, w32}
 use Rattle.std.proofs.Common.{add-one, refl, sym, ap, ap₂, ◌∙◌}
 use Rattle.std.proofs.lemmas.Nat.{from_be_bytes-to_be_bytes_4}
 use Rattle.m88_base.specs.Image.{ProgramImage, byte_at}
 use Rattle.m88_base.specs.Lines.{line_end}
-use Rattle.m88_board.proofs.Laws.{mode_stays}
+use Rattle.m88_board.proofs.Laws.{found_there, mode_stays, none_there}
 use Rattle.m88_isa.proofs.Laws.{TurnFits, instruction_at_word, listed_recorded, state_agrees, turn_fits}
 use Rattle.m88_base.specs.Reg.{with_register}
 use Rattle.m88_event.specs.declared.happened.End.{End}
@@ -98,20 +98,6 @@ word_is p image a (Some w) of small fetched =
     sym (from_be_bytes-to_be_bytes_4 w small)
     ∙ ap (λ (o : Option (List ℕ)). from_be_bytes w32 (unwrap_or o []))
     (fetched ∙ ap (λ (byte : ℕ → Option ℕ). four_bytes byte a) (sym of.bytes))
-
-none_there : (o : Option Instr) (word : ℕ) → MatchOption o ((j : Instr) → ¬ IsWord j word) (λ j. IsWord j word) →
-    ((j : Instr) → ¬ IsWord j word) →
-    o ≡ None
-none_there None word found none = refl
-none_there (Some j) word found none = absurd (none j found)
-
-found_there : (o : Option Instr) (i : Instr) (word : ℕ) →
-    MatchOption o ((j : Instr) → ¬ IsWord j word) (λ j. IsWord j word) →
-    IsWord i word →
-    ((j : Instr) → IsWord j word → j ≡ i) →
-    o ≡ Some i
-found_there None i word none is only = absurd (none i is)
-found_there (Some j) i word found is only = ap Some (only j found)
 
 -- the bytes and the instruction of a word that was fetched
 bytes_there : (p : Program) (image : ProgramImage) (pc word : ℕ) (fetch : Option ℕ) → IsProgramOf image p →

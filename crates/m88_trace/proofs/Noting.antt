@@ -1,5 +1,5 @@
 -- What an event adds to a trace.
-use Rattle.std.specs.Prelude.{ℕ, zero, suc, Bool, true, false, List, [], ◌∷◌, ◌++◌, Option, Some, None, ◌≡◌, ◌≢◌, ◌≤◌, ◌+◌, ◌==◌, ◌||◌, drop, length, take, unwrap_or}
+use Rattle.std.specs.Prelude.{ℕ, Bool, true, false, List, [], ◌∷◌, ◌++◌, Option, Some, None, ◌≡◌, ◌≢◌, ◌≤◌, ◌+◌, ◌==◌, ◌||◌, drop, length, take, unwrap_or}
 use Rattle.std.proofs.Common.{arith, add-one, refl, sym, ap, ap₂, subst, ◌∙◌}
 use Rattle.std.specs.Int.{from_be_bytes, w32}
 use Rattle.std.proofs.lemmas.Nat.{from_be_bytes-to_be_bytes_4}
@@ -10,7 +10,7 @@ use Rattle.m88_board.specs.Moves.{IsAt}
 use Rattle.m88_board.specs.Told.{IsTold, IsWordOf}
 use Rattle.m88_board.specs.declared.told.Told.{Told}
 use Rattle.m88_mem.specs.DataBus.{absent_of, bus_of}
-use Rattle.m88_event.proofs.Laws.{Fits, fits, more_transactions}
+use Rattle.m88_event.proofs.Laws.{Fits, answered_bus, fits, more_transactions, split_drop}
 use Rattle.m88_event.specs.Bound.{one_if}
 use Rattle.m88_event.specs.Choice.{Choice, answer_choice, end_by, evicts, faults, finishes, holds, idles, issue_choice, issues, passes, replies, said, serves, turn_choice}
 use Rattle.m88_event.specs.Past.{HasPast}
@@ -293,22 +293,6 @@ traced_end p limit m n old new stop end is past e lives told ends writes waits t
     })
 
 -- one transaction is done, and its datum is written
-split_take : (done : ℕ) (xs : List Access) → take (suc done) xs ≡ take done xs ++ take 1 (drop done xs)
-split_take zero xs = refl
-split_take (suc done) [] = refl
-split_take (suc done) (x ∷ xs) = ap (λ ys. x ∷ ys) (split_take done xs)
-
-split_drop : (done : ℕ) (xs : List Access) → drop 1 (drop done xs) ≡ drop (suc done) xs
-split_drop zero xs = refl
-split_drop (suc done) [] = refl
-split_drop (suc done) (x ∷ xs) = split_drop done xs
-
-answered_words : (p : Program) (n done : ℕ) →
-    bus_at p n (done + 1) ≡ bus_after_all (take 1 (pending_at p n done)) (bus_at p n done)
-answered_words p n done = rw add-one (
-    ap (λ xs. bus_after_all xs (in_words (opening p).memory)) (split_take done (transactions p n))
-    ∙ bus_of_append (take done (transactions p n)) (take 1 (pending_at p n done)) (in_words (opening p).memory))
-
 pub traced_answer : (p : Program) (m n : Moment) (old new : Sheet) → told_of n ≡ (m.retired, m.done + 1, m.ended) →
     sheet_text new (bus_after_all (take 1 (sheet_accesses old)) (bus_at p m.retired m.done))
     ≡ sheet_text old (bus_at p m.retired m.done) →
@@ -319,7 +303,7 @@ traced_answer p m n old new told writes waits traced =
     traced_same p n (record m { done = m.done + 1 }) new told (record {
       text =
           ap (sheet_text new)
-          (answered_words p m.retired m.done
+          (sym (answered_bus p m.retired m.done)
           ∙ ap (λ (xs : List Access). bus_after_all (take 1 xs) (bus_at p m.retired m.done)) (sym traced.waiting))
           ∙ writes
           ∙ traced.text;

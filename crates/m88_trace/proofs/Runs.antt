@@ -1,5 +1,5 @@
 -- A run on a board, event by event, with its trace.
-use Rattle.std.specs.Prelude.{ℕ, Bool, true, false, List, [], IfOk, Result, Ok, Err, ◌≡◌, ◌+◌, ◌==◌, ◌&&◌, ◌||◌}
+use Rattle.std.specs.Prelude.{ℕ, Bool, true, false, List, [], IfOk, Result, Ok, Err, ◌≡◌, ◌+◌, ◌==◌, ◌||◌}
 use Rattle.std.proofs.Common.{arith, add-one, refl, sym, ap, ap₂, subst, ◌∙◌}
 use Rattle.std.proofs.lemmas.Bool.{eqb-true}
 use Rattle.std.proofs.lemmas.List.{drop_all}
@@ -12,6 +12,7 @@ use Rattle.m88_event.specs.Past.{HasPast}
 use Rattle.m88_event.specs.Run.{IsRunning, moment_after, moment_along}
 use Rattle.m88_event.specs.Timeline.{Moment, after_letter, is_drained, is_idle, is_over, opening_moment}
 use Rattle.m88_event.specs.declared.letter.Letter.{Letter}
+use Rattle.m88_isa.proofs.Laws.{first_of, second_of}
 use Rattle.m88_isa.specs.History.{transaction_count, transactions}
 use Rattle.m88_isa.specs.Machine.{Program}
 use Rattle.m88_trace.proofs.History.{lines_there, text_past}
@@ -85,14 +86,6 @@ runs_next p named limit now schedule letters k taken last b c s t limits same pl
     })
 
 -- where it is over, nothing waits
-first_of : (a b : Bool) → (a && b) ≡ true → a ≡ true
-first_of true b h = refl
-first_of false b h = h
-
-second_of : (a b : Bool) → (a && b) ≡ true → b ≡ true
-second_of true b h = h
-second_of false b h = absurd cc
-
 pub over_empty : (p : Program) (limit : ℕ) (m : Moment) (s : Sheet) → IsTraced p m s → is_over p limit m ≡ true →
     sheet_accesses s ≡ []
 over_empty p limit m s traced over =

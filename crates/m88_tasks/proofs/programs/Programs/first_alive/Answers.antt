@@ -1,7 +1,7 @@
 -- The programs are tried from one on.
 use Rattle.std.proofs.Common.{◌∙◌, ap, sym}
 use Rattle.std.specs.Prelude.{not}
-use Rattle.m88_tasks.proofs.Searching.{here_first, not_here, nowhere}
+use Rattle.m88_board.proofs.Laws.{here_first, not_here, nowhere}
 use Rattle.m88_tasks.specs.Shared.{over_at}
 use Rattle.m88_tasks.proofs.programs.Programs.first_alive.Goals as goal
 
