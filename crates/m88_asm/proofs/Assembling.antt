@@ -31,7 +31,7 @@ none_of_both (Some x) b h = cc
 
 -- a statement that fits leaves room for its bytes
 
-no_fault : {A : Type 0} (b : Bool) (x : A) → (if b then Some x else None) ≡ None → b ≡ false
+pub no_fault : {A : Type 0} (b : Bool) (x : A) → (if b then Some x else None) ≡ None → b ≡ false
 no_fault true x h = cc
 no_fault false x h = refl
 

@@ -48,7 +48,7 @@ has_either [] qs a v h = inr h
 has_either (p ∷ ps) qs a v (inl h) = inl (inl h)
 has_either (p ∷ ps) qs a v (inr h) = elim (has_either ps qs a v h) [ inl l ↦ inl (inr l) | inr r ↦ inr r ]
 
-either_some : (o q : Option ℕ) (v : ℕ) → option_or o q ≡ Some v → (o ≡ Some v) ⊎ (q ≡ Some v)
+pub either_some : (o q : Option ℕ) (v : ℕ) → option_or o q ≡ Some v → (o ≡ Some v) ⊎ (q ≡ Some v)
 either_some (Some x) q v h = inl h
 either_some None q v h = inr h
 
@@ -61,7 +61,7 @@ both_none : (o q : Option ℕ) → option_or o q ≡ None → (o ≡ None) × (q
 both_none None q h = (refl, h)
 both_none (Some x) q h = cc
 
-some_none : (o : Option ℕ) (v : ℕ) → o ≡ None → o ≡ Some v → ⊥
+pub some_none : (o : Option ℕ) (v : ℕ) → o ≡ None → o ≡ Some v → ⊥
 some_none o v n h = cc
 
 none_has : (ps : List Placed) (a v : ℕ) → byte_among ps a ≡ None → Has ps a v → ⊥

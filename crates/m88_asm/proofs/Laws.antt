@@ -19,8 +19,12 @@ pub use Rattle.m88_asm.proofs.Reaching.{each_fills}
 pub use Rattle.m88_asm.proofs.Relocating.{AllFormed, AreInReach, length-filled_bytes}
 -- statements without a fault: the first has none and the others have none
 pub use Rattle.m88_asm.proofs.Sounding.{first_parts}
--- as of any two options neither is there, where their first is none
+-- as of any two options neither is there, where their first is none; a value of the first is that of one of them, and an
+-- option is not both none and some
 pub use Rattle.m88_asm.proofs.Assembling.{none_of_both}
+pub use Rattle.m88_asm.proofs.Imaging.{either_some, some_none}
+-- a test that would give a fault fails where there is none
+pub use Rattle.m88_asm.proofs.Assembling.{no_fault}
 -- Sources: one is accepted for assembling, or for linking too, or has one refusal, behind other lines of an input too.
 pub use Rattle.m88_asm.proofs.SourceVerdicts.{not_linked, one_assembly_verdict, one_program_verdict, program_or_refusal, same_program_refusal}
 -- one that is accepted has one program in each mode

@@ -5,24 +5,20 @@ use Rattle.std.specs.Char.{digit_value, is_digit}
 use Rattle.std.specs.List.{list_all}
 use Rattle.std.specs.Str.Parse.{AllDigits, digits_value}
 use Rattle.std.proofs.lemmas.Bool.Decides.{nat_tests}
-use Rattle.std.proofs.lemmas.Bool.{le-leb, leb-true, lt-ltb, ltb-true}
+use Rattle.std.proofs.lemmas.Bool.{and_parts, le-leb, leb-true, lt-ltb, ltb-true}
 use Rattle.std.proofs.lemmas.Fmt.{decimal-digits_value, decimal_digit, decimal_is_IsNumeral, first_decimal}
 use Rattle.std.proofs.lemmas.Str.Parse.{IsNumeralModel, digits_value-take-le}
 use Rattle.m88_base.specs.Numerals.{is_numeral, number_in, has_no_needless_zero}
-
-pub both : (a b : Bool) → (a && b) ≡ true → (a ≡ true) × (b ≡ true)
-both true b e = (refl, e)
-both false b e = absurd cc
 
 abbrev pub are_digits : ℕ → List ℕ → Bool
 are_digits base ds = list_all (λ b. is_digit b base) ds
 
 -- the test of digits, and what digits are
-all_are : (base : ℕ) (ds : List ℕ) → are_digits base ds ≡ true → AllDigits base ds
+pub all_are : (base : ℕ) (ds : List ℕ) → are_digits base ds ≡ true → AllDigits base ds
 all_are base [] e = tt
-all_are base (d ∷ ds) e = let k = both (is_digit d base) (are_digits base ds) e in (ltb-true (digit_value d) base k.0, all_are base ds k.1)
+all_are base (d ∷ ds) e = let k = and_parts (is_digit d base) (are_digits base ds) e in (ltb-true (digit_value d) base k.0, all_are base ds k.1)
 
-are_all : (base : ℕ) (ds : List ℕ) → AllDigits base ds → are_digits base ds ≡ true
+pub are_all : (base : ℕ) (ds : List ℕ) → AllDigits base ds → are_digits base ds ≡ true
 are_all base [] h = refl
 are_all base (d ∷ ds) h = ap (λ t. t && are_digits base ds) (lt-ltb (digit_value d) base h.0) ∙ are_all base ds h.1
 
@@ -42,10 +38,10 @@ front_too_great base most i ds some great =
     guarded (is_numeral base ds) (nat_le (digits_value base ds) most) (digits_value base ds) (grind (arith, nat_tests))
 
 -- what is answered of a number is its value
-told : (a b : Bool) (v n : ℕ) → (if a && b then Some v else None) ≡ Some n → (a ≡ true) × (b ≡ true) × (v ≡ n)
-told true true v n e = (refl, refl, cc)
-told true false v n e = absurd cc
-told false b v n e = absurd cc
+pub value_told : (a b : Bool) (v n : ℕ) → (if a && b then Some v else None) ≡ Some n → (a ≡ true) × (b ≡ true) × (v ≡ n)
+value_told true true v n e = (refl, refl, cc)
+value_told true false v n e = absurd cc
+value_told false b v n e = absurd cc
 
 -- a numeral that is small is told
 pub tells : (base most v : ℕ) (text : List ℕ) → 0 < length text → are_digits base text ≡ true → digits_value base text ≡ v → v ≤ most
@@ -63,13 +59,13 @@ pub decimal_found : (most : ℕ) (text : List ℕ) (o : Option ℕ) → most < 2
     → IfSome o (λ n. text ≡ decimal n)
 decimal_found most text None small needed e = tt
 decimal_found most text (Some n) small needed e =
-    let k = told (is_numeral 10 text) (nat_le (digits_value 10 text) most) (digits_value 10 text) n (sym e) in
-    let l = both (nat_le 1 (length text)) (are_digits 10 text) k.0 in
+    let k = value_told (is_numeral 10 text) (nat_le (digits_value 10 text) most) (digits_value 10 text) n (sym e) in
+    let l = and_parts (nat_le 1 (length text)) (are_digits 10 text) k.0 in
     let bound : digits_value 10 text ≤ most = leb-true _ _ k.1 in
     sym (decimal-digits_value decimals text l.1 (leb-true 1 (length text) l.0) (leads text needed) (omega arith)) ∙ ap decimal k.2
 
 -- the decimal digits of a number have no needless zero
-decimal_leads : (n : ℕ) → n < 2 ^ 64 → get_or (decimal n) 0 0 ≡ 48 → length (decimal n) ≡ 1
+pub decimal_leads : (n : ℕ) → n < 2 ^ 64 → get_or (decimal n) 0 0 ≡ 48 → length (decimal n) ≡ 1
 decimal_leads zero small e = ap length (decimal_digit 0 (omega arith))
 decimal_leads (suc n) small e = let first = first_decimal (suc n) (omega arith) small in absurd (omega arith)
 

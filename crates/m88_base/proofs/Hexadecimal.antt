@@ -4,11 +4,11 @@ use Rattle.std.specs.Prelude.{IfSome, if◌then◌else◌}
 use Rattle.std.specs.Char.{digit_value, is_digit}
 use Rattle.std.specs.List.{list_all}
 use Rattle.std.specs.Str.Parse.{digits_value}
-use Rattle.std.proofs.lemmas.Bool.{eqb-true}
+use Rattle.std.proofs.lemmas.Bool.{and_parts, eqb-true}
 use Rattle.std.proofs.lemmas.Bool.Decides.{nat_tests}
 use Rattle.m88_base.specs.Hex.{hex_digit, hex8, hex8_of, is_hex_digit, is_hex8}
 use Rattle.m88_base.specs.Numerals.{number_in}
-use Rattle.m88_base.proofs.Digits.{both, tells, are_digits}
+use Rattle.m88_base.proofs.Digits.{tells, are_digits}
 
 -- what a digit stands for, and the digit of it
 value_of_digit : (d : ℕ) → d < 16 → digit_value (hex_digit d) ≡ d
@@ -49,14 +49,14 @@ eight (a ∷ b ∷ c ∷ d ∷ e ∷ []) k = absurd cc
 eight (a ∷ b ∷ c ∷ d ∷ e ∷ f ∷ []) k = absurd cc
 eight (a ∷ b ∷ c ∷ d ∷ e ∷ f ∷ g ∷ []) k = absurd cc
 eight (a ∷ b ∷ c ∷ d ∷ e ∷ f ∷ g ∷ h ∷ []) k =
-    let k1 = both (is_hex_digit a) (list_all is_hex_digit (b ∷ c ∷ d ∷ e ∷ f ∷ g ∷ h ∷ [])) k in
-    let k2 = both (is_hex_digit b) (list_all is_hex_digit (c ∷ d ∷ e ∷ f ∷ g ∷ h ∷ [])) k1.1 in
-    let k3 = both (is_hex_digit c) (list_all is_hex_digit (d ∷ e ∷ f ∷ g ∷ h ∷ [])) k2.1 in
-    let k4 = both (is_hex_digit d) (list_all is_hex_digit (e ∷ f ∷ g ∷ h ∷ [])) k3.1 in
-    let k5 = both (is_hex_digit e) (list_all is_hex_digit (f ∷ g ∷ h ∷ [])) k4.1 in
-    let k6 = both (is_hex_digit f) (list_all is_hex_digit (g ∷ h ∷ [])) k5.1 in
-    let k7 = both (is_hex_digit g) (list_all is_hex_digit (h ∷ [])) k6.1 in
-    let k8 = both (is_hex_digit h) true k7.1 in
+    let k1 = and_parts (is_hex_digit a) (list_all is_hex_digit (b ∷ c ∷ d ∷ e ∷ f ∷ g ∷ h ∷ [])) k in
+    let k2 = and_parts (is_hex_digit b) (list_all is_hex_digit (c ∷ d ∷ e ∷ f ∷ g ∷ h ∷ [])) k1.1 in
+    let k3 = and_parts (is_hex_digit c) (list_all is_hex_digit (d ∷ e ∷ f ∷ g ∷ h ∷ [])) k2.1 in
+    let k4 = and_parts (is_hex_digit d) (list_all is_hex_digit (e ∷ f ∷ g ∷ h ∷ [])) k3.1 in
+    let k5 = and_parts (is_hex_digit e) (list_all is_hex_digit (f ∷ g ∷ h ∷ [])) k4.1 in
+    let k6 = and_parts (is_hex_digit f) (list_all is_hex_digit (g ∷ h ∷ [])) k5.1 in
+    let k7 = and_parts (is_hex_digit g) (list_all is_hex_digit (h ∷ [])) k6.1 in
+    let k8 = and_parts (is_hex_digit h) true k7.1 in
     record {
       a = digit_value a;
       b = digit_value b;
@@ -80,7 +80,7 @@ eight (a ∷ b ∷ c ∷ d ∷ e ∷ f ∷ g ∷ h ∷ []) k =
     }
 eight (a ∷ b ∷ c ∷ d ∷ e ∷ f ∷ g ∷ h ∷ i ∷ more) k =
     let text : List ℕ = a ∷ b ∷ c ∷ d ∷ e ∷ f ∷ g ∷ h ∷ i ∷ more in
-    let l : length text ≡ 8 = eqb-true (length text) 8 (both (length text == 8) (list_all is_hex_digit text) k).0 in
+    let l : length text ≡ 8 = eqb-true (length text) 8 (and_parts (length text == 8) (list_all is_hex_digit text) k).0 in
     absurd (omega (arith, l))
 
 -- the word of eight digits by what they stand for

@@ -8,12 +8,15 @@ pub use Rattle.m88_base.proofs.RegisterBits.{bit_of_member, bit_of_set}
 pub use Rattle.m88_base.proofs.SameRuns.{same_images}
 -- an image has no more parts than bytes
 pub use Rattle.m88_base.proofs.FewParts.{few_parts}
--- nothing is found below runs that stand apart
-pub use Rattle.m88_base.proofs.Apart.{none_below}
 -- the byte that a run has at an address: none below it or above it, and else the one that stands there
 pub use Rattle.m88_base.proofs.Lookup.{byte_in_above, byte_in_at, byte_in_below, byte_in_from}
 -- the byte that two runs have where one begins at the end of the other, or that joined lists of runs have
 pub use Rattle.m88_base.proofs.Lookup.{byte_among-append, byte_in-join}
+-- Bytes: each is below 256, at any index too, and so are the first of them and those behind.
+pub use Rattle.m88_base.proofs.PartBytes.{AreBytes, byte_below, bytes_dropped, bytes_taken}
+-- where parts that stand apart find bytes, the first has such, ends at most where all addresses end, and the others find
+-- bytes too
+pub use Rattle.m88_base.proofs.PartBytes.{behind_finds, part_bytes, part_ends}
 -- each of runs that stand apart is a part of what is found in them
 pub use Rattle.m88_base.proofs.Cuts.{run_is_part}
 -- Elements of lists: one of joined lists stands in the first or in the second.
@@ -24,10 +27,14 @@ pub use Rattle.m88_base.proofs.Lookup.{option_or-none, option_or_assoc}
 -- joined lists where the first is whole pieces.
 pub use Rattle.m88_base.proofs.InPieces.{first_piece, length-pieces, next_piece, no_pieces, only_piece, pieces-append}
 -- Lines: one ends at a line feed, at a carriage return with its line feed, or with the text; any other byte before a
--- text begins its first line, and one line with its end is the first of a text that it begins.
-pub use Rattle.m88_base.proofs.Lines.{ends_last, ends_source, first_line, front_by, is_inner}
+-- text begins its first line, one line with its end is the first of a text that it begins, and an empty text has none.
+pub use Rattle.m88_base.proofs.Lines.{ends_last, ends_source, first_line, front_by, is_inner, no_lines}
+-- lines that were appended are those of an equal text too, and one line more stands before others
+pub use Rattle.m88_base.proofs.Appended.{line_before, retold}
 -- an input is parted at a line in one way, or it isn't parted, and one of the two is so
 pub use Rattle.m88_base.proofs.PartedLines.{one_parting, parted_not_unparted, parted_told}
+-- what stands behind a line behind others stands behind one more, and a text of length 0 is empty
+pub use Rattle.m88_base.proofs.PartedLines.{behind_more, empty_of}
 -- Texts with a mark: a text is cut at its first mark in one way, one that lacks the mark has no cut, and digits lack a
 -- mark that is no digit.
 pub use Rattle.m88_base.proofs.Marks.{cut_once, none_in_digits, not_cut}
@@ -36,11 +43,15 @@ pub use Rattle.m88_base.proofs.Splitting.{cut_found, split_first, uncut}
 -- what lacks a byte: joined texts that do, and a text of bytes that pass a test which the byte fails
 pub use Rattle.m88_base.proofs.Splitting.{is_other, lacks-append, lacks_by, other_false}
 -- Numerals: one that is read is that of its value, one that is written is read again and has no needless zero.
-pub use Rattle.m88_base.proofs.Digits.{are_digits, decimal_found, decimal_needed, decimal_told, tells}
+pub use Rattle.m88_base.proofs.Digits.{are_digits, decimal_found, decimal_leads, decimal_needed, decimal_told, tells}
+-- the test of digits says that all are digits, and what is answered of a number by two tests is its value
+pub use Rattle.m88_base.proofs.Digits.{all_are, are_all, value_told}
 -- eight hexadecimal digits that are written are read again, and those that are read were written
 pub use Rattle.m88_base.proofs.Hexadecimal.{hex8-hex8_of, hex8_of-hex8, is_hex8-hex8, value_of_hex8}
 -- Verdicts: what is accepted or refused, never both, and refused for one reason, has one.
 pub use Rattle.m88_base.proofs.OnceTold.{told_once}
+-- Tests: one with a test that always passes is the test.
+pub use Rattle.m88_base.proofs.Lines.{and_true}
 -- Statements that hold or fail: an order of numbers, the sameness of texts, and two together.
 pub use Rattle.m88_base.proofs.Decided.{IsDecided, at_most, both_decided, same_text}
 -- Sources and sinks: where no call is made the count of calls stays, and one more call adds one to it.

@@ -1,6 +1,7 @@
 -- What only helps the proofs; Laws is for those above.
 pub mod Answering
 pub mod Apart
+pub mod Appended
 pub mod AsciiDigits
 pub mod Calls
 pub mod Constants
@@ -22,6 +23,7 @@ pub mod Lines
 pub mod Lookup
 pub mod Marks
 pub mod OnceTold
+pub mod PartBytes
 pub mod PartedLines
 pub mod Placing
 pub mod RegisterBits

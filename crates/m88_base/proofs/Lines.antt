@@ -8,6 +8,11 @@ use Rattle.m88_base.proofs.Splitting.{len_to, len_to_is}
 abbrev pub is_inner : ℕ → Bool
 is_inner b = not (b == 10)
 
+-- an empty text has no line
+pub no_lines : lines_of [] ≡ []
+unfolding lines_of
+no_lines = refl
+
 -- a byte before a line end or before another byte
 pub front_by : (b : ℕ) (bs : List ℕ) (v w : Bool) → (b == 10) ≡ v → (b == 13 && begins_with_lf bs) ≡ w
     → lines_of (b ∷ bs) ≡ cond v ([] ∷ lines_of bs) (cond w (lines_of bs) (on_first_line b (lines_of bs)))
@@ -28,7 +33,7 @@ first_line (b ∷ bs) rest h =
     by true e [] h k = absurd (h (eqb-true b 13 e) refl)
     by true e (c ∷ cs) h k = ne_eqb c 10 k.0
 
-and_true : (x : Bool) → (x && true) ≡ x
+pub and_true : (x : Bool) → (x && true) ≡ x
 and_true true = refl
 and_true false = refl
 

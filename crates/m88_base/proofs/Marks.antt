@@ -4,8 +4,7 @@ use Rattle.std.specs.Prelude.{Option, Some}
 use Rattle.std.specs.Str.Parse.{AllDigits}
 use Rattle.std.specs.Char.{digit_value}
 use Rattle.std.specs.List.{list_all}
-use Rattle.std.proofs.lemmas.Bool.{eq-eqb, eqb-true}
-use Rattle.m88_base.proofs.Digits.{both}
+use Rattle.std.proofs.lemmas.Bool.{and_parts, eq-eqb, eqb-true}
 use Rattle.m88_base.proofs.Splitting.{split_first}
 use Rattle.m88_base.specs.Cut.{Lacks, split_at_byte}
 
@@ -29,7 +28,7 @@ none_in_digits mark base (d ∷ ds) none h =
 
 -- the first byte of a text without the mark is none, and the rest has none
 parts : (mark c : ℕ) (a : List ℕ) → Lacks mark (c ∷ a) → (not (c == mark) ≡ true) × Lacks mark a
-parts mark c a none = both (not (c == mark)) (list_all (λ b. not (b == mark)) a) none
+parts mark c a none = and_parts (not (c == mark)) (list_all (λ b. not (b == mark)) a) none
 
 -- a text with the mark has one
 pub not_cut : (mark : ℕ) (a b : List ℕ) → Lacks mark (a ++ mark ∷ b) → ⊥

@@ -101,7 +101,7 @@ chunk_line rest line h e = by_end h.ends
         (sym (lines_behind h.chunk (behind_line rest) ends) ∙ ap lines_of (sym h.text_is) ∙ e)
 
 -- one line more
-behind_more : (n : ℕ) (input : List ℕ) → behind_line (behind_lines n input) ≡ behind_lines (suc n) input
+pub behind_more : (n : ℕ) (input : List ℕ) → behind_line (behind_lines n input) ≡ behind_lines (suc n) input
 behind_more zero input = refl
 behind_more (suc n) input = behind_more n (behind_line input)
 

@@ -2,10 +2,10 @@
 use Rattle.std.proofs.Common.{◌≡◌, ℕ, suc, ◌+◌, ◌<◌, ◌≤◌, Bool, true, false, cond, List, [], ◌∷◌, ◌++◌, length, take, drop, refl, sym, ap, ◌∙◌, subst, arith, eq-eqb}
 use Rattle.std.specs.Prelude.{Option, None, Some, ◌==◌, not, option_map, ◌&&◌, if◌then◌else◌}
 use Rattle.std.specs.List.{list_all, prefix_len}
+use Rattle.std.proofs.lemmas.Bool.{and_parts}
 use Rattle.std.proofs.lemmas.Bool.Decides.{nat_tests}
 use Rattle.std.proofs.lemmas.List.Sums.{prefix_len-le-length}
 use Rattle.m88_base.specs.Cut.{lacks, split_at_byte, with_first}
-use Rattle.m88_base.proofs.Digits.{both}
 
 -- the byte has another value
 abbrev pub is_other : ℕ → ℕ → Bool
@@ -70,14 +70,14 @@ module _ (at n : ℕ) (text : List ℕ) (is : n ≡ prefix_len (is_other at) tex
 pub lacks-append : (at : ℕ) (xs ys : List ℕ) → lacks at xs ≡ true → lacks at ys ≡ true → lacks at (xs ++ ys) ≡ true
 lacks-append at [] ys h k = k
 lacks-append at (x ∷ xs) ys h k =
-    let b = both (is_other at x) (lacks at xs) h in
+    let b = and_parts (is_other at x) (lacks at xs) h in
     ap (λ (t : Bool). t && lacks at (xs ++ ys)) b.0 ∙ lacks-append at xs ys b.1 k
 
 -- a text that lacks what no byte that passes a test is
 pub lacks_by : (p : ℕ → Bool) (at : ℕ) → ((b : ℕ) → p b ≡ true → is_other at b ≡ true) → (text : List ℕ) → list_all p text ≡ true → lacks at text ≡ true
 lacks_by p at other [] h = refl
 lacks_by p at other (x ∷ xs) h =
-    let b = both (p x) (list_all p xs) h in
+    let b = and_parts (p x) (list_all p xs) h in
     ap (λ (t : Bool). t && lacks at xs) (other x b.0) ∙ lacks_by p at other xs b.1
 
 pub other_false : (at b : ℕ) → is_other at b ≡ true → (b == at) ≡ false
@@ -91,7 +91,7 @@ other_false at b h = by_value (b == at) h
 pub split_first : (at : ℕ) (word rest : List ℕ) → lacks at word ≡ true → split_at_byte at (word ++ at ∷ rest) ≡ Some (word, rest)
 split_first at [] rest h = ap (λ (v : Bool). if v then Some ([], rest) else option_map (with_first at) (split_at_byte at rest)) (eq-eqb at at refl)
 split_first at (x ∷ xs) rest h =
-    let b = both (is_other at x) (lacks at xs) h in
+    let b = and_parts (is_other at x) (lacks at xs) h in
     ap (λ (v : Bool). if v then Some ([], xs ++ at ∷ rest) else option_map (with_first x) (split_at_byte at (xs ++ at ∷ rest))) (other_false at x b.0)
     ∙ ap (option_map (with_first x)) (split_first at xs rest b.1)
 

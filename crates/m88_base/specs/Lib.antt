@@ -8,6 +8,7 @@ pub mod Name
 pub mod Cut
 pub mod Words
 pub mod Lines
+pub mod Appended
 pub mod Parted
 pub mod Pieces
 pub mod Numerals

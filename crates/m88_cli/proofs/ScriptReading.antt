@@ -1,5 +1,5 @@
 -- The lines of a script read one by one.
-use Rattle.std.proofs.Common.{◌≡◌, ℕ, ◌+◌, ◌-◌, ◌==◌, Bool, true, false, List, [], ◌∷◌, ◌++◌, length, length-append, append_assoc, take, refl, ap, sym, ◌∙◌, subst, arith}
+use Rattle.std.proofs.Common.{◌≡◌, ℕ, ◌+◌, ◌-◌, ◌==◌, Bool, true, false, List, [], ◌∷◌, ◌++◌, length, length-append, append_assoc, take, ap, sym, ◌∙◌, subst, arith}
 use Rattle.std.specs.Prelude.{◌≢◌}
 use Rattle.std.proofs.lemmas.List.{append-nil}
 use Rattle.std.proofs.Math.Seq.{take-append_seam}
@@ -53,9 +53,5 @@ all_read text rest cs passed h none =
     subst (λ ls. AreScriptLines ls cs) (sym (h.lines_are ∙ ap (λ bs. h.lines ++ lines_of bs) none ∙ append-nil h.lines)) h.are_script
 
 -- what tests say
-pub empty_of : (xs : List ℕ) → length xs ≡ 0 → xs ≡ []
-empty_of [] e = refl
-empty_of (x ∷ xs) e = absurd (omega (arith, e))
-
 pub not_empty : (xs : List ℕ) (b : Bool) → b ≡ (length xs == 0) → b ≡ false → xs ≢ []
 not_empty xs b e f none = absurd (let k : false ≡ true = sym f ∙ e ∙ ap (λ (ys : List ℕ). length ys == 0) none in cc)

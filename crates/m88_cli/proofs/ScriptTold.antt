@@ -3,14 +3,14 @@ use Rattle.std.proofs.Common.{◌≡◌, ℕ, ◌≤◌, List, [], ◌∷◌, �
 use Rattle.std.specs.Prelude.{◌⊎◌, codes, nat_le}
 use Rattle.std.specs.Str.Parse.{digits_value}
 use Rattle.std.proofs.lemmas.Bool.{cases_eq, leb-true}
-use Rattle.m88_base.proofs.Laws.{at_most, cut_found, same_text, split_first}
+use Rattle.m88_base.proofs.Laws.{at_most, cut_found, same_text, split_first, value_told}
 use Rattle.m88_base.specs.Cut.{Lacks, split_at_byte}
 use Rattle.m88_base.specs.Numerals.{is_numeral, number_in}
 use Rattle.m88_cli.specs.Numbers.{IsShortNumber}
 use Rattle.m88_cli.specs.Script.{AreMemoryOperands, HasOperand, IsCount, WritesAddress, WritesCommand, most_steps, most_words}
 use Rattle.m88_cli.specs.declared.script.MonitorCommand.{MonitorCommand}
 use Rattle.m88_cli.specs.declared.script.MonitorCommand.TheVariants.{Step, Go, Break, Regs, Pipe, Memory, Drain, Trace}
-use Rattle.m88_cli.proofs.Numerals.{short_found, short_told, told}
+use Rattle.m88_cli.proofs.Numerals.{short_found, short_told}
 use Rattle.m88_cli.proofs.ScriptLines.{are_parts, place_has_none, place_is_small, same_operand}
 
 -- something is written, or nothing
@@ -28,7 +28,7 @@ number_told base most_digits most text = elim (at_most (length text) most_digits
         → IsWritten (λ n. IsShortNumber base most_digits text n × (n ≤ most))
     by_value short None e = inr (λ n h. let told : None ≡ Some n = e ∙ short_told base most_digits most n text h.1 h.0 in absurd cc)
     by_value short (Some n) e =
-        let k = told (is_numeral base text) (nat_le (digits_value base text) most) (digits_value base text) n (sym e) in
+        let k = value_told (is_numeral base text) (nat_le (digits_value base text) most) (digits_value base text) n (sym e) in
         let small = leb-true (digits_value base text) most k.1 in
         inl (n, (short_found base most_digits most text (Some n) short e, omega (arith, small, k.2)))
 

@@ -1,14 +1,11 @@
 -- The statements of a listing, and the bytes that each gives.
-use Rattle.std.proofs.Common.{◌≡◌, ℕ, zero, suc, ◌+◌, ◌-◌, ◌%◌, ◌<◌, ◌≤◌, ◌^◌, inl, inr, List, [], ◌∷◌, ◌++◌, length, get_or, refl, sym, ap, subst, ◌∙◌, arith}
-use Rattle.std.specs.Prelude.{Option, None, Some, IfSome, slice_get}
+use Rattle.std.proofs.Common.{◌≡◌, ℕ, ◌+◌, ◌%◌, ◌<◌, ◌≤◌, ◌^◌, List, [], ◌∷◌, ◌++◌, length, refl, ap, subst, ◌∙◌, arith}
+use Rattle.std.specs.Prelude.{None}
 use Rattle.std.specs.Int.{from_be_bytes, to_be_bytes, w32}
-use Rattle.std.specs.Option.{option_or}
-use Rattle.std.proofs.lemmas.Bool.{cases_lt}
 use Rattle.std.proofs.lemmas.Nat.{be_bytes_4}
-use Rattle.std.proofs.lemmas.Option.{slice_get-get_or}
 use Rattle.m88_base.specs.Found.{FindsBytes}
 use Rattle.m88_base.specs.Placed.{AreApart, Placed, byte_among}
-use Rattle.m88_base.proofs.Laws.{byte_in_above, byte_in_from, none_below}
+use Rattle.m88_base.proofs.Laws.{AreBytes, behind_finds, byte_below, part_bytes, part_ends}
 use Rattle.m88_isa.specs.Word.{word_of}
 use Rattle.m88_isa.specs.declared.instr.Instr.{Instr}
 use Rattle.m88_isa.specs.declared.instr.Instr.TheVariants as instr
@@ -25,11 +22,6 @@ use Rattle.m88_disasm.proofs.Given.{Data, Gives, Names, PartsData, more_data, mo
 -- a listing names nothing but its start
 abbrev pub nothing_named : Names
 nothing_named name a = ⊥
-
--- each byte is below 256
-abbrev pub AreBytes : List ℕ → Type 0
-AreBytes [] = Unit {0}
-AreBytes (b ∷ bs) = (b < 256) × AreBytes bs
 
 -- parts of bytes that lie below 2 ^ 32
 abbrev pub ArePieces : List Placed → Type 0
@@ -90,16 +82,11 @@ gives_instr Named number at (instr.Sfu unit rest) stands =
     gives_word Named number at (word_of (instr.Sfu unit rest)) stands
 gives_instr Named number at i stands = gives_code Named number at _ stands
 
-below : (bs : List ℕ) → AreBytes bs → (i : ℕ) → get_or bs i 0 < 256
-below [] h i = omega arith
-below (b ∷ bs) h zero = h.0
-below (b ∷ bs) h (suc i) = below bs h.1 i
-
 four : (a b c d : ℕ) → a < 256 → b < 256 → c < 256 → d < 256
     → to_be_bytes w32 (from_be_bytes w32 (a ∷ b ∷ c ∷ d ∷ [])) ≡ a ∷ b ∷ c ∷ d ∷ []
 four a b c d ha hb hc hd =
     be_bytes_4 (a ∷ b ∷ c ∷ d ∷ []) (from_be_bytes w32 (a ∷ b ∷ c ∷ d ∷ [])) refl
-    (below (a ∷ b ∷ c ∷ d ∷ []) (ha, (hb, (hc, (hd, tt))))) refl
+    (byte_below (a ∷ b ∷ c ∷ d ∷ []) (ha, (hb, (hc, (hd, tt))))) refl
 
 word_below : (a b c d : ℕ) → a < 256 → b < 256 → c < 256 → d < 256 → from_be_bytes w32 (a ∷ b ∷ c ∷ d ∷ []) < 2 ^ 32
 word_below a b c d ha hb hc hd = omega arith
@@ -172,44 +159,10 @@ listed_parts number _ _ pieces (part {run = run} {runs = runs} {lines = lines} {
     }
 
 -- the parts of an image
-in_part : (p : Placed) (k b : ℕ) (ps : List Placed) → slice_get p.bytes k ≡ Some b
-    → byte_among (p ∷ ps) (p.at + k) ≡ Some b
-in_part p k b ps e = ap (λ (o : Option ℕ). option_or o (byte_among ps (p.at + k))) (byte_in_from p.at p.bytes k ∙ e)
-
-some_fits : (o : Option ℕ) (a b : ℕ) → o ≡ Some b → IfSome o (λ c. (a < 2 ^ 32) × (c < 256)) → (a < 2 ^ 32) × (b < 256)
-some_fits o a b e h = subst (λ (q : Option ℕ). IfSome q (λ c. (a < 2 ^ 32) × (c < 256))) e h
-
-bytes_by_index : (bytes : List ℕ) → ((k b : ℕ) → slice_get bytes k ≡ Some b → b < 256) → AreBytes bytes
-bytes_by_index [] h = tt
-bytes_by_index (b ∷ bytes) h = (h 0 b refl, bytes_by_index bytes (λ k c e. h (suc k) c e))
-
-behind_finds : (from : ℕ) (p : Placed) (ps : List Placed) → AreApart from (p ∷ ps) → FindsBytes (byte_among (p ∷ ps))
-    → FindsBytes (byte_among ps)
-behind_finds from p ps apart finds a =
-    elim (cases_lt a (p.at + length p.bytes + 1)) [
-      | inl low ↦
-          subst (λ (o : Option ℕ). IfSome o (λ c. (a < 2 ^ 32) × (c < 256)))
-          (sym (none_below (p.at + length p.bytes + 1) ps a apart.2 low)) tt
-      | inr high ↦
-          subst (λ (o : Option ℕ). IfSome (option_or o (byte_among ps a)) (λ c. (a < 2 ^ 32) × (c < 256)))
-          (byte_in_above p a (omega (arith, high))) (finds a)
-    ]
-
-part_ends : (p : Placed) (ps : List Placed) → 0 < length p.bytes → FindsBytes (byte_among (p ∷ ps))
-    → p.at + length p.bytes ≤ 2 ^ 32
-part_ends p ps some finds =
-    let k : ℕ = length p.bytes - 1 in
-    let found = slice_get-get_or p.bytes k 0 (omega arith) in
-    let fits = some_fits (byte_among (p ∷ ps) (p.at + k)) (p.at + k) (get_or p.bytes k 0)
-    (in_part p k (get_or p.bytes k 0) ps found) (finds (p.at + k)) in
-    let low : p.at + k < 2 ^ 32 = fits.0 in
-    omega arith
-
 pub pieces_of : (from : ℕ) (ps : List Placed) → AreApart from ps → FindsBytes (byte_among ps) → ArePieces ps
 pieces_of from [] apart finds = tt
 pieces_of from (p ∷ ps) apart finds = (
-  bytes_by_index p.bytes
-      (λ k b e. (some_fits (byte_among (p ∷ ps) (p.at + k)) (p.at + k) b (in_part p k b ps e) (finds (p.at + k))).1),
+  part_bytes p ps finds,
   apart.1,
   part_ends p ps apart.1 finds,
   pieces_of (p.at + length p.bytes + 1) ps apart.2 (behind_finds from p ps apart finds),

@@ -68,7 +68,7 @@ empty_first = record {
 }
 
 -- sections
-heads_are : (Named : Names) (sets xs : List Statement) → Sets Named sets
+pub heads_are : (Named : Names) (sets xs : List Statement) → Sets Named sets
     → heads_in (main (sets ++ xs)) ≡ first_heads 1 ++ opened_in xs
 heads_are Named sets xs are =
     ap (λ (hs : List Head). first_heads 1 ++ hs) (opened_sections at_begin (sets ++ xs) ∙ sets_heads Named sets xs are)

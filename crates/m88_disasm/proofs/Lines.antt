@@ -5,6 +5,8 @@ use Rattle.std.specs.Int.{from_be_bytes, w32}
 use Rattle.std.proofs.lemmas.List.{at_drop_more, drop-drop, drop_all}
 use Rattle.std.proofs.lemmas.Option.{get_or_from_slice_get, slice_get_within}
 use Rattle.std.proofs.lemmas.List.Concat.{flat_map-append}
+use Rattle.m88_base.proofs.Laws.{line_before, retold}
+use Rattle.m88_base.specs.Appended.{AreAppended}
 use Rattle.m88_base.specs.Lines.{line_end, text_of_lines}
 use Rattle.m88_base.specs.Placed.{Placed}
 use Rattle.m88_isa.specs.Word.{IsWord}
@@ -14,7 +16,7 @@ use Rattle.m88_disasm.specs.Listing.{AreLinesFrom, ArePartLines, BeginsWord, IsW
 use Rattle.m88_disasm.specs.Listing.IsWordLine.{instruction, no_instruction}
 use Rattle.m88_disasm.specs.Listing.AreLinesFrom.{no_line, word, byte}
 use Rattle.m88_disasm.specs.Listing.ArePartLines.{no_part, part}
-use Rattle.m88_disasm.specs.Inside.Appended.{BytesAppended, LineAppended, LinesAppended}
+use Rattle.m88_disasm.specs.Inside.Appended.{BytesAppended, LineAppended}
 
 -- the line of a word that an instruction has
 pub said_instruction : (i : Instr) (w : ℕ) (old new : List ℕ) → IsWord i w → new ≡ old ++ (instr_text i ++ line_end)
@@ -25,12 +27,6 @@ said_instruction i w old new is text_is = record { line = instr_text i; is = ins
 pub said_word : (w : ℕ) (old new : List ℕ) → ((i : Instr) → IsWord i w → ⊥) → new ≡ old ++ (word_text w ++ line_end)
     → LineAppended (IsWordLine w) old new
 said_word w old new none text_is = record { line = word_text w; is = no_instruction none; text_is = text_is }
-
--- a line before others
-line_before : (old new line : List ℕ) (lines : List (List ℕ)) → new ≡ old ++ (line ++ line_end)
-    → new ++ text_of_lines lines ≡ old ++ text_of_lines (line ∷ lines)
-line_before old new line lines e =
-    ap (λ (xs : List ℕ). xs ++ text_of_lines lines) e ∙ append_assoc old (line ++ line_end) (text_of_lines lines)
 
 -- the line of the word that begins the bytes
 pub word_first : (at w : ℕ) (bytes old new : List ℕ) → BeginsWord at bytes → w ≡ from_be_bytes w32 (take 4 bytes)
@@ -57,11 +53,6 @@ byte_first at (b ∷ bytes) old new some none e =
       text_is = line_before old new (lone_byte_line b) lines e;
     }
 
--- the same lines, of a text that is equal
-retold : (Are : List (List ℕ) → Type 0) (old new same : List ℕ) → same ≡ new → LinesAppended Are old new
-    → LinesAppended Are old same
-retold Are old new same e l = record { lines = l.lines; are = l.are; text_is = e ∙ l.text_is }
-
 -- more lines behind those of the first m bytes
 pub more_bytes : (at m n : ℕ) (bytes rest t0 t1 t2 : List ℕ) → rest ≡ drop m bytes → BytesAppended at bytes t0 t1 m
     → BytesAppended (at + m) rest t1 t2 n → BytesAppended at bytes t0 t2 (m + n)
@@ -72,14 +63,14 @@ more_bytes at m n bytes rest t0 t1 t2 rest_is first second =
     let are_left : AreLinesFrom (at + m + n) (drop n rest) lines =
     subst (λ (xs : List ℕ). AreLinesFrom (at + m + n) xs lines) left
     (subst (λ (k : ℕ). AreLinesFrom k (drop (m + n) bytes) lines) sum are) in
-    let next : LinesAppended (AreLinesFrom (at + m) rest) t1 (t2 ++ text_of_lines lines) = second lines are_left in
-    let whole : LinesAppended (AreLinesFrom at bytes) t0 (t1 ++ text_of_lines next.lines) =
+    let next : AreAppended (AreLinesFrom (at + m) rest) t1 (t2 ++ text_of_lines lines) = second lines are_left in
+    let whole : AreAppended (AreLinesFrom at bytes) t0 (t1 ++ text_of_lines next.lines) =
     first next.lines (subst (λ (xs : List ℕ). AreLinesFrom (at + m) xs next.lines) rest_is next.are) in
     retold (AreLinesFrom at bytes) t0 (t1 ++ text_of_lines next.lines) (t2 ++ text_of_lines lines) next.text_is whole
 
 -- all lines are there
 pub all_bytes : (at n : ℕ) (bytes old new : List ℕ) → length bytes ≤ n → BytesAppended at bytes old new n
-    → LinesAppended (AreLinesFrom at bytes) old new
+    → AreAppended (AreLinesFrom at bytes) old new
 all_bytes at n bytes old new past so_far =
     let none_left : AreLinesFrom (at + n) (drop n bytes) [] =
     subst (λ (xs : List ℕ). AreLinesFrom (at + n) xs []) (sym (drop_all n bytes past)) no_line in
@@ -89,7 +80,7 @@ all_bytes at n bytes old new past so_far =
 abbrev pub PartsAppended : List Placed → List ℕ → List ℕ → ℕ → Type 0
 PartsAppended runs old new n =
     (lines : List (List ℕ)) → ArePartLines (drop n runs) lines
-    → LinesAppended (ArePartLines runs) old (new ++ text_of_lines lines)
+    → AreAppended (ArePartLines runs) old (new ++ text_of_lines lines)
 
 -- what is left begins with the part of that index
 part_next : (runs : List Placed) (k : ℕ) (run : Placed) → slice_get runs k ≡ Some run
@@ -112,7 +103,7 @@ part_text t1 t2 t3 place lines more e f =
 -- one part more
 pub more_parts : (runs : List Placed) (k : ℕ) (run : Placed) (t0 t1 t2 t3 : List ℕ) → slice_get runs k ≡ Some run
     → PartsAppended runs t0 t1 k → t2 ≡ t1 ++ (place_line run.at ++ line_end)
-    → LinesAppended (AreLinesFrom run.at run.bytes) t2 t3 → PartsAppended runs t0 t3 (k + 1)
+    → AreAppended (AreLinesFrom run.at run.bytes) t2 t3 → PartsAppended runs t0 t3 (k + 1)
 more_parts runs k run t0 t1 t2 t3 found before place l =
     λ more are.
     let all : List (List ℕ) = place_line run.at ∷ (l.lines ++ more) in
@@ -123,7 +114,7 @@ more_parts runs k run t0 t1 t2 t3 found before place l =
 
 -- all parts are there
 pub all_parts : (runs : List Placed) (n : ℕ) (old new : List ℕ) → length runs ≤ n → PartsAppended runs old new n
-    → LinesAppended (ArePartLines runs) old new
+    → AreAppended (ArePartLines runs) old new
 all_parts runs n old new past so_far =
     let none_left : ArePartLines (drop n runs) [] =
     subst (λ (rs : List Placed). ArePartLines rs []) (sym (drop_all n runs past)) no_part in

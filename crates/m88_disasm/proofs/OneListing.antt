@@ -16,7 +16,7 @@ one_word_line w _ _ (instruction i is) (no_instruction none) = absurd (none i is
 one_word_line w _ _ (no_instruction none) (instruction j is2) = absurd (none j is2)
 one_word_line w _ _ (no_instruction none) (no_instruction none2) = refl
 
-one_more : (l m : List ℕ) (ls ms : List (List ℕ)) → l ≡ m → ls ≡ ms → l ∷ ls ≡ m ∷ ms
+pub one_more : (l m : List ℕ) (ls ms : List (List ℕ)) → l ≡ m → ls ≡ ms → l ∷ ls ≡ m ∷ ms
 one_more l m ls ms e f = cc
 
 one_lines : (at : ℕ) (bytes : List ℕ) (ls ms : List (List ℕ)) → AreLinesFrom at bytes ls → AreLinesFrom at bytes ms → ls ≡ ms

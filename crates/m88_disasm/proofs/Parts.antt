@@ -1,16 +1,17 @@
 -- Texts that are put together from parts, each one token of the assembly language, and the tokens that they are.
-use Rattle.std.proofs.Common.{◌≡◌, ℕ, zero, suc, ◌+◌, ◌/◌, ◌%◌, ◌<◌, ◌≤◌, ◌^◌, Bool, true, false, ◌&&◌, ◌||◌, nat_le, nat_lt, inl, inr, List, [], ◌∷◌, ◌++◌, length, get_or, refl, sym, ap, ◌∙◌, arith, lit<, append-nil, length-append, lt-ltb, ltb-true, decimal}
+use Rattle.std.proofs.Common.{◌≡◌, ℕ, ◌+◌, ◌/◌, ◌%◌, ◌<◌, ◌≤◌, ◌^◌, Bool, true, false, ◌&&◌, ◌||◌, nat_le, nat_lt, inl, inr, List, [], ◌∷◌, ◌++◌, length, get_or, refl, sym, ap, ◌∙◌, arith, lit<, append-nil, length-append, lt-ltb, ltb-true, decimal}
 use Rattle.std.specs.Prelude.{flat_map}
 use Rattle.std.specs.Char.{digit_value}
 use Rattle.std.specs.List.{list_all}
 use Rattle.std.specs.Str.Parse.{AllDigits, digits_value}
+use Rattle.std.proofs.lemmas.Bool.{and_parts}
 use Rattle.std.proofs.lemmas.Bool.Decides.{nat_tests}
-use Rattle.std.proofs.lemmas.Fmt.{decimal_digit, decimal_is_IsNumeral, first_decimal, length-decimal-le}
+use Rattle.std.proofs.lemmas.Fmt.{decimal_is_IsNumeral, length-decimal-le}
 use Rattle.std.proofs.lemmas.List.Folds.{list_all-append}
 use Rattle.std.proofs.lemmas.List.Sums.{AllPass-from_list_all, list_all-from_AllPass}
 use Rattle.m88_base.specs.Hex.{hex_digit, hex2, hex8}
 use Rattle.m88_base.specs.Name.{IsName, begins_name, continues_name}
-use Rattle.m88_base.proofs.Laws.{value_of_hex8}
+use Rattle.m88_base.proofs.Laws.{decimal_leads, value_of_hex8}
 use Rattle.m88_isa.specs.declared.instr.ImmOp.{ImmOp}
 use Rattle.m88_isa.specs.declared.instr.ImmOp.TheVariants as imm
 use Rattle.m88_isa.specs.declared.instr.RegOp.{RegOp}
@@ -98,20 +99,11 @@ abbrev pub pieces : ℕ → List Part → List Piece
 pieces col [] = []
 pieces col (p ∷ ps) = piece_of col p ∷ pieces (col + length (part_text p)) ps
 
--- tests that hold both
-both : (a b : Bool) → (a && b) ≡ true → (a ≡ true) × (b ≡ true)
-both true b e = (refl, e)
-both false b e = absurd cc
-
 -- decimal digits
 are_all : (base : ℕ) (ds : List ℕ) → AllDigits base ds → are_digits base ds ≡ true
 are_all base [] h = refl
 are_all base (d ∷ ds) h =
     ap (λ (t : Bool). t && are_digits base ds) (lt-ltb (digit_value d) base h.0) ∙ are_all base ds h.1
-
-decimal_leads : (n : ℕ) → n < 2 ^ 64 → get_or (decimal n) 0 0 ≡ 48 → length (decimal n) ≡ 1
-decimal_leads zero small e = ap length (decimal_digit 0 (omega arith))
-decimal_leads (suc n) small e = let first = first_decimal (suc n) (omega arith) small in absurd (omega arith)
 
 is_short : (text : List ℕ) → (get_or text 0 0 ≡ 48 → length text ≡ 1) → HasNoNeedlessZero text
 is_short [] f = tt
@@ -140,7 +132,7 @@ good_token (part_mark b) h = (refl, h.0)
 ends : (p : Part) (ps : List Part) → IsGood p → AreGood ps → parted_from p ps ≡ true
     → AreNameBytes (part_text p) → BeginsWithNoNameByte (parts_text ps)
 ends p [] g gs a h = tt
-ends (part_mark b) (q ∷ qs) g gs a h = let e = both (continues_name b) true h in absurd cc
+ends (part_mark b) (q ∷ qs) g gs a h = let e = and_parts (continues_name b) true h in absurd cc
 ends p (part_mark b ∷ qs) g gs a h = gs.0.1
 ends _ (_ ∷ qs) g gs a h = absurd cc
 
@@ -149,7 +141,7 @@ tokens_of : (col : ℕ) (ps : List Part) → AreGood ps → are_parted ps ≡ tr
     → AreTokens col (parts_text ps) (pieces col ps)
 tokens_of col [] gs a = record { gap = []; tail = []; bytes_are = refl; blank = refl; comment = tt }
 tokens_of col (p ∷ ps) gs a =
-    let k = both (parted_from p ps) (are_parted ps) a in (
+    let k = and_parts (parted_from p ps) (are_parted ps) a in (
       parts_text ps,
       record {
         gap = [];
@@ -169,7 +161,7 @@ line_pieces op ps = piece_of 1 (part_name op) ∷ pieces (1 + length op + 1) ps
 pub line_tokens : (op : List ℕ) (p : Part) (ps : List Part) → IsName op → AreGood (p ∷ ps) → are_parted (p ∷ ps) ≡ true
     → LineTokens (op ++ 32 ∷ parts_text (p ∷ ps)) (line_pieces op (p ∷ ps))
 line_tokens op p ps name gs a =
-    let k = both (parted_from p ps) (are_parted ps) a in (
+    let k = and_parts (parted_from p ps) (are_parted ps) a in (
       32 ∷ parts_text (p ∷ ps),
       record {
         gap = [];
@@ -216,8 +208,8 @@ is_name_text (b ∷ bs) = (begins_name b && nat_lt (length bs) 64) && list_all c
 name_passes : (text : List ℕ) → is_name_text text ≡ true → IsName text
 name_passes [] e = absurd cc
 name_passes (b ∷ bs) e =
-    let h = both (begins_name b && nat_lt (length bs) 64) (list_all continues_name bs) e in
-    let k = both (begins_name b) (nat_lt (length bs) 64) h.0 in
+    let h = and_parts (begins_name b && nat_lt (length bs) 64) (list_all continues_name bs) e in
+    let k = and_parts (begins_name b) (nat_lt (length bs) 64) h.0 in
     (k.0, AllPass-from_list_all continues_name bs h.1, ltb-true (length bs) 64 k.1)
 
 pub word_name : (text : List ℕ) → is_name_text text ≡ true → IsName text
@@ -344,7 +336,7 @@ name_printed b h = grind (arith, nat_tests)
 names_printed : (bs : List ℕ) → list_all continues_name bs ≡ true → are_printed bs ≡ true
 names_printed [] h = refl
 names_printed (b ∷ bs) h =
-    let k = both (continues_name b) (list_all continues_name bs) h in
+    let k = and_parts (continues_name b) (list_all continues_name bs) h in
     ap (λ (t : Bool). t && are_printed bs) (name_printed b k.0) ∙ names_printed bs k.1
 
 first_printed : (b : ℕ) → begins_name b ≡ true → is_printed b ≡ true
@@ -362,7 +354,7 @@ digit_printed b h = grind (arith, nat_tests)
 digits_printed : (bs : List ℕ) → are_digits 16 bs ≡ true → are_printed bs ≡ true
 digits_printed [] h = refl
 digits_printed (b ∷ bs) h =
-    let k = both (nat_lt (digit_value b) 16) (are_digits 16 bs) h in
+    let k = and_parts (nat_lt (digit_value b) 16) (are_digits 16 bs) h in
     ap (λ (t : Bool). t && are_printed bs) (digit_printed b (ltb-true (digit_value b) 16 k.0)) ∙ digits_printed bs k.1
 
 decimals_printed : (n : ℕ) → n < 2 ^ 32 → are_printed (decimal n) ≡ true

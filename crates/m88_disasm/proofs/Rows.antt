@@ -1,8 +1,9 @@
 -- Lines that are each read as a statement are a source, whose unit has these statements.
-use Rattle.std.proofs.Common.{◌≡◌, ℕ, ◌+◌, Bool, true, false, ◌==◌, ◌&&◌, List, [], ◌∷◌, ◌++◌, length, refl, sym, ap, subst, ◌∙◌, arith, append-nil, append_assoc, codes}
+use Rattle.std.proofs.Common.{◌≡◌, ℕ, ◌+◌, true, false, ◌==◌, List, [], ◌∷◌, ◌++◌, length, refl, sym, ap, subst, ◌∙◌, arith, append-nil, append_assoc, codes}
 use Rattle.std.specs.Prelude.{◌≢◌}
+use Rattle.std.proofs.lemmas.Bool.{and_parts}
 use Rattle.std.proofs.lemmas.Bool.Decides.{nat_tests}
-use Rattle.m88_base.proofs.Laws.{first_line}
+use Rattle.m88_base.proofs.Laws.{first_line, no_lines}
 use Rattle.m88_base.specs.Lines.{IsOneLine, line_end, lines_of, text_of_lines}
 use Rattle.m88_parse.specs.Language.Pieces.{Piece}
 use Rattle.m88_parse.specs.Language.Statements.{IsStatement}
@@ -15,15 +16,11 @@ use Rattle.m88_disasm.specs.Read.{unlabelled}
 use Rattle.m88_disasm.proofs.Parts.{are_printed, is_printed}
 use Rattle.m88_disasm.proofs.Spoken.{SpokenAs}
 
-both : (a b : Bool) → (a && b) ≡ true → (a ≡ true) × (b ≡ true)
-both true b e = (refl, e)
-both false b e = absurd cc
-
 -- a printed line is one line
 printed_line : (line : List ℕ) → are_printed line ≡ true → IsOneLine line
 printed_line [] h = tt
 printed_line (b ∷ bs) h =
-    let k = both (is_printed b) (are_printed bs) h in
+    let k = and_parts (is_printed b) (are_printed bs) h in
     let printed : is_printed b ≡ true = k.0 in
     (ten b printed, (λ e. absurd (thirteen b printed e)), printed_line bs k.1)
   where
@@ -52,10 +49,6 @@ stated_behind number later (l ∷ ls) ms [] ys e h k = absurd h
 abbrev pub numbered : ℕ → List Body → List Statement
 numbered number [] = []
 numbered number (b ∷ bs) = unlabelled number b ∷ numbered (number + 1) bs
-
-no_lines : lines_of [] ≡ []
-unfolding lines_of
-no_lines = refl
 
 -- lines that are the text's, and rows of statements
 pub record AreRead (number : ℕ) (lines : List (List ℕ)) (xs : List Statement) : Type 0 where

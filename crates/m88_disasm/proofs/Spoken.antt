@@ -282,7 +282,7 @@ target_good : (words : ℤ) → FitsWords 25 words → AreGood (target_parts wor
 target_good (pos n) fits = (word_name (codes ".") refl, ((refl, refl, refl), (omega arith, tt)))
 target_good (negsuc n) fits = (word_name (codes ".") refl, ((refl, refl, refl), (omega arith, tt)))
 
-wider : (words : ℤ) → FitsWords 15 words → FitsWords 25 words
+pub wider : (words : ℤ) → FitsWords 15 words → FitsWords 25 words
 wider (pos n) fits = omega arith
 wider (negsuc n) fits = omega arith
 

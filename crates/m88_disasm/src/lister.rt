@@ -1,9 +1,10 @@
 //! The listing of an image.
 ghost use Rattle.std.specs.Prelude.{◌≡◌, ◌+◌, ◌*◌, ◌<◌, ◌≤◌, ◌^◌, ◌++◌, ℕ, List, length, IfOk, IsTrue, OnOk, ◌↔◌};
+ghost use Rattle.m88_base.specs.Appended.{AreAppended};
 ghost use Rattle.m88_base.specs.Image.{IsImage, parts};
 ghost use Rattle.m88_base.specs.Lines.{line_end};
 ghost use Rattle.m88_base.specs.Placed.{count_among};
-ghost use Rattle.m88_disasm.specs.Inside.Appended.{BytesAppended, LineAppended, LinesAppended};
+ghost use Rattle.m88_disasm.specs.Inside.Appended.{BytesAppended, LineAppended};
 ghost use Rattle.m88_disasm.specs.Listing.{AreLinesFrom, ArePartLines, BeginsWord, IsImageListing, IsWordLine, lone_byte_line, place_line, start_line};
 ghost use Rattle.m88_disasm.specs.Read.{WritesImage};
 ghost use Rattle.m88_disasm.specs.Text.{hexadecimal};
@@ -113,7 +114,7 @@ fn push_first(text: &mut Vec<u8>, at: u32, bytes: &[u8]) -> Result<usize, AllocE
 fn push_bytes(text: &mut Vec<u8>, at: u32, bytes: &[u8]) -> Result<(), AllocError>
     requires { at + length bytes.now ≤ 2 ^ 32 }
     ensures lines { OnOk result
-        (LinesAppended (AreLinesFrom at bytes.now) text.old.items text.new.items) }
+        (AreAppended (AreLinesFrom at bytes.now) text.old.items text.new.items) }
     ensures room { OnOk result
         (length text.new.items ≤ length text.old.items + MOST_LINE * length bytes.now) }
 {
@@ -128,7 +129,7 @@ fn push_bytes(text: &mut Vec<u8>, at: u32, bytes: &[u8]) -> Result<(), AllocErro
 /// Appends the lines of all parts of an image.
 fn push_parts(text: &mut Vec<u8>, image: &Image) -> Result<(), AllocError>
     ensures lines { OnOk result
-        (LinesAppended (ArePartLines (parts image.now)) text.old.items text.new.items) }
+        (AreAppended (ArePartLines (parts image.now)) text.old.items text.new.items) }
     ensures room { OnOk result (length text.new.items
         ≤ length text.old.items + MOST_PER_BYTE * count_among (parts image.now)) }
     ensures image { IsImage image.now }

@@ -58,7 +58,7 @@ unpatched_same g p =
     fun_ext (λ (x : Section). ap (λ (n : ℕ). let s : Placed = record { at = n; bytes = x.bytes } in s) (place_same g p x.place))
 
 -- what is the same of each is the same of all
-all_same : {A B C : Type 0} (f : B → List C) (h : A → List C) (change : A → B) → ((x : A) → f (change x) ≡ h x) → (xs : List A)
+pub all_same : {A B C : Type 0} (f : B → List C) (h : A → List C) (change : A → B) → ((x : A) → f (change x) ≡ h x) → (xs : List A)
     → flat_map f (map change xs) ≡ flat_map h xs
 all_same f h change one [] = refl
 all_same f h change one (x ∷ xs) =

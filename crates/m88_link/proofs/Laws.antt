@@ -16,5 +16,7 @@ pub use Rattle.m88_link.proofs.Counted.{alone_apart, same_count}
 pub use Rattle.m88_link.proofs.Forced.{base_same, forced_globals, value_same}
 -- Symbols: parts that repeat no name behind each other repeat none together.
 pub use Rattle.m88_link.proofs.Parts.{repeats_none}
--- A help of proofs: what holds of all elements of joined lists holds of those of the first.
+-- Helps of proofs: where what lists have is the same of each element that was changed, it is the same of all.
+pub use Rattle.m88_link.proofs.Forced.{all_same}
+-- what holds of all elements of joined lists holds of those of the first
 pub use Rattle.m88_link.proofs.Walks.{front_of as all_of_front}

@@ -23,7 +23,7 @@ use Rattle.m88_asm.specs.Faults.{duplicate_at, misfit_at, misplaced_at, module_f
 use Rattle.m88_asm.specs.Images.{IsUnitImage, run_of, runs_in, unit_byte}
 use Rattle.m88_asm.specs.Objects.{symbols_of}
 use Rattle.m88_asm.specs.Units.{address_in, based, bytes_of, section_length, unit_layout, value_in_module}
-use Rattle.m88_asm.proofs.Laws.{AllFormed, CanFill, EachBased, Has, each_fills, first_parts, formed, has_left, has_right, length-filled_bytes, none_of_both, run_found, runs_law}
+use Rattle.m88_asm.proofs.Laws.{AllFormed, CanFill, EachBased, Has, each_fills, first_parts, formed, has_left, has_right, length-filled_bytes, no_fault, none_of_both, run_found, runs_law}
 use Rattle.m88_listing.specs.Rows.{Row, named_by, row_of, rows_in, rows_of_statement, rows_of_unit, shown_as, symbol_row}
 use Rattle.m88_listing.specs.Inside.Slots.{AllFit, StandsWithin, IsSlot, ModuleFits, found_bytes, kept_row, slots_at, slots_from, slots_of, symbol_slot}
 use Rattle.m88_listing.specs.declared.slots.Slot.{Slot}
@@ -70,10 +70,6 @@ pub all_found : (u : Source) (found : ℕ → Option ℕ) → AreDisjoint (unit_
 all_found u found apart own = modules_found (unit_layout u).globals found (based u) (found_in u found apart own)
 
 -- a statement that meets no fault has room
-no_fault : {A : Type 0} (b : Bool) (x : A) → (if b then Some x else None) ≡ None → b ≡ false
-no_fault true x h = cc
-no_fault false x h = refl
-
 pub room_of : (r : Located) → misfit_at (offset_of r) (place_of r) r.statement ≡ None → offset_of r + length_of r ≤ most_bytes
 room_of r h =
     let none = (none_of_both (misplaced_at (place_of r) r.statement) (too_large_at (offset_of r) (place_of r) r.statement) h).1 in

@@ -31,10 +31,10 @@ use Rattle.m88_link.specs.declared.object.Symbol.{Symbol}
 use Rattle.m88_asm.specs.Counters.{Counters, Located, after, at_begin, located, offset_of, section_of}
 use Rattle.m88_asm.specs.Objects.{lines_in, objects_of, sections_in, symbols_in, symbol_uses, uses_in_body, uses_in_values, use_at}
 use Rattle.m88_asm.specs.Units.{address_in, base_in, based, section_length, unit_layout, value_in_module}
-use Rattle.m88_link.proofs.Laws.{base_same, forced_globals, value_same}
+use Rattle.m88_link.proofs.Laws.{all_same, base_same, forced_globals, value_same}
 use Rattle.m88_asm.proofs.Laws.{AllFormed, AreInReach, CanFill, EachBased, all_stood, formed, globals_law, placement, same_base, spots_law}
 use Rattle.m88_listing.specs.Settled.{is_carried_out, settled_body, settled_module, settled_statement, settled_unit, settled_value}
-use Rattle.m88_listing.proofs.Settling.{all_same, base_settled, globals_settled, lines_settled, offset_same, section_same, sections_settled, settled_base, settled_line, symbols_settled, unit_stands}
+use Rattle.m88_listing.proofs.Settling.{base_settled, globals_settled, lines_settled, offset_same, section_same, sections_settled, settled_base, settled_line, symbols_settled, unit_stands}
 
 -- a use of a symbol can be carried out
 abbrev pub is_reached : List Symbol → Placement Module → Reloc → Bool

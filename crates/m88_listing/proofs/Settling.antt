@@ -24,6 +24,7 @@ use Rattle.m88_link.specs.declared.object.Place.{Place}
 use Rattle.m88_link.specs.declared.object.Place.TheVariants.{Text, DataSection, At}
 use Rattle.m88_link.specs.declared.object.Section.{Section}
 use Rattle.m88_link.specs.declared.object.Symbol.{Symbol}
+use Rattle.m88_link.proofs.Laws.{all_same}
 use Rattle.m88_asm.specs.Counters.{Counters, Located, after, at_begin, at_section, here_at, length_at, length_of, located, offset_here, offset_of, place_here, place_of, section_of, with_length}
 use Rattle.m88_asm.specs.Faults.{alignment_of, duplicate_at, fault_in, misfit_at, misplaced_at, module_fault, modules_fault, statements_fault, too_large_at, unit_fault}
 use Rattle.m88_asm.specs.Filled.{waiting_bytes, waiting_word}
@@ -153,13 +154,7 @@ located_settled g b c (x ∷ xs) =
 pub lines_settled : (g : List Symbol) (b : Placement Module) → lines_in (settled_module g b) ≡ map (settled_line g b) (lines_in b.part)
 lines_settled g b = located_settled g b at_begin b.part.statements
 
--- what is the same of each is the same of all
-pub all_same : {A B C : Type 0} (f : B → List C) (h : A → List C) (change : A → B) → ((x : A) → f (change x) ≡ h x) → (xs : List A)
-    → flat_map f (map change xs) ≡ flat_map h xs
-all_same f h change one [] = refl
-all_same f h change one (x ∷ xs) =
-    ap (λ ys. ys ++ flat_map f (map change xs)) (one x) ∙ ap (λ ys. h x ++ ys) (all_same f h change one xs)
-
+-- what is the same of each is the same of their sum
 sums_same : {A B : Type 0} (f : B → ℕ) (h : A → ℕ) (change : A → B) → ((x : A) → f (change x) ≡ h x) → (xs : List A)
     → sum_by f (map change xs) ≡ sum_by h xs
 sums_same f h change one [] = refl

@@ -1,7 +1,7 @@
 -- The lines of a source show the bytes of its image.
 use Rattle.std.proofs.Common.{◌≡◌, ℕ, ◌≤◌, Bool, true, false, inl, inr, List, [], ◌∷◌, ◌++◌, length, map, refl, sym, ap, ◌∙◌, subst, arith, Option, Some, None}
 use Rattle.std.specs.Prelude.{◌==◌, ◌⊎◌, flat_map, if◌then◌else◌, nat_lt}
-use Rattle.std.specs.Option.{option_map_or, option_or}
+use Rattle.std.specs.Option.{option_map_or}
 use Rattle.std.proofs.lemmas.Bool.{eqb-true, ltb-false}
 use Rattle.std.proofs.lemmas.Bool.Decides.{nat_tests}
 use Rattle.m88_base.proofs.Laws.{byte_among-append, byte_in_above, byte_in_below}
@@ -15,7 +15,7 @@ use Rattle.m88_asm.specs.Objects.{lines_in}
 use Rattle.m88_link.specs.Bases.{Placement}
 use Rattle.m88_parse.specs.declared.unit.Module.{Module}
 use Rattle.m88_asm.specs.Units.{address_in, based, bytes_of, unit_layout, value_in_module}
-use Rattle.m88_asm.proofs.Laws.{Has, has_left, has_right, length-filled_bytes}
+use Rattle.m88_asm.proofs.Laws.{Has, either_some, has_left, has_right, length-filled_bytes, some_none}
 use Rattle.m88_listing.specs.Laws.{EachShowsItsImage, Shows, shown_runs}
 use Rattle.m88_listing.specs.Rows.{Row, named_by, row_of, rows_in, rows_of_statement, rows_of_unit, symbol_row}
 use Rattle.m88_listing.specs.Inside.Slots.{kept_row, slots_of}
@@ -45,9 +45,6 @@ runs-append [] ys = refl
 runs-append (x ∷ xs) ys = ap (λ rs. x.run ∷ rs) (runs-append xs ys)
 
 -- a run without bytes has none at any address
-some_none : (o : Option ℕ) (v : ℕ) → o ≡ None → o ≡ Some v → ⊥
-some_none o v n h = cc
-
 empty_run : (run : Placed) (a : ℕ) → length run.bytes ≤ 0 → byte_in run a ≡ None
 empty_run run a none = by (nat_lt a run.at) refl
   where
@@ -114,10 +111,6 @@ modules_show globals (x ∷ bs) a b h =
     (subst (λ ps. Shows ps a b) (runs-append (rows_in globals x) (flat_map (rows_in globals) bs)) h)))
 
 -- and the other way round
-either_some : (o q : Option ℕ) (v : ℕ) → option_or o q ≡ Some v → (o ≡ Some v) ⊎ (q ≡ Some v)
-either_some (Some x) q v h = inl h
-either_some None q v h = inr h
-
 found_row : (globals : List Symbol) (bs : Placement Module) (rs : List Located) (a b : ℕ) → byte_among (map (run_of globals bs) rs) a ≡ Some b
     → Shows (runs (flat_map (rows_of_statement globals bs) rs)) a b
 found_row globals bs [] a b h = cc

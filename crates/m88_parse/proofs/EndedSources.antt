@@ -1,6 +1,6 @@
 -- Sources whose last line is ended: each has the unit of the source, and is parted from what stands behind it and a line
 -- that no source has.
-use Rattle.std.proofs.Common.{◌≡◌, ℕ, zero, suc, ◌+◌, Bool, true, false, cond, ◌&&◌, ◌||◌, ◌==◌, List, [], ◌∷◌, ◌++◌, length, Err, Ok, inl, inr, refl, sym, ap, ap₂, ◌∙◌, subst, subst₂, arith, eqb-true, true≢false, append-nil, append_assoc, length-append}
+use Rattle.std.proofs.Common.{◌≡◌, ℕ, suc, ◌+◌, Bool, true, false, cond, ◌&&◌, ◌||◌, ◌==◌, List, [], ◌∷◌, ◌++◌, length, Err, Ok, inl, inr, refl, sym, ap, ap₂, ◌∙◌, subst, subst₂, arith, eqb-true, true≢false, append-nil, append_assoc, length-append}
 use Rattle.std.specs.Prelude.{◌⊎◌, ◌≢◌}
 use Rattle.std.specs.Char.{is_ascii_digit}
 use Rattle.std.specs.List.{All, list_all}
@@ -8,7 +8,7 @@ use Rattle.std.proofs.lemmas.List.Elements.{All-cons, All-nil}
 use Rattle.std.proofs.lemmas.List.Sums.{list_all-from_AllPass}
 use Rattle.std.proofs.lemmas.Bool.{and_parts}
 use Rattle.std.proofs.Math.Bool.{and-false}
-use Rattle.m88_base.proofs.Laws.{front_by}
+use Rattle.m88_base.proofs.Laws.{and_true, behind_more, front_by}
 use Rattle.m88_base.specs.Lines.{begins_with_lf, behind_line, carriage_return, line_end, line_feed, lines_of, on_first_line}
 use Rattle.m88_base.specs.Name.{IsName, continues_name}
 use Rattle.m88_base.specs.Parted.{IsParted, LacksLine, behind_lines}
@@ -119,11 +119,6 @@ behind_whole [] rest h = refl
 behind_whole (b ∷ bs) rest h =
     let s = splits b bs rest h in
     ap (λ (ls : List (List ℕ)). behind_lines (length ls) (b ∷ bs ++ rest)) s.own ∙ s.behind
-
--- one line more
-behind_more : (n : ℕ) (input : List ℕ) → behind_line (behind_lines n input) ≡ behind_lines (suc n) input
-behind_more zero input = refl
-behind_more (suc n) input = behind_more n (behind_line input)
 
 -- a line that can't be read: no operation is called so
 abbrev pub IsUnread : List ℕ → Type 0
@@ -311,10 +306,6 @@ cut_more b ks ls false false h = cut_first b ks ls h
 last_lines : (b : ℕ) (w : Bool) → (b == carriage_return) ≡ w → AreCut ((b ∷ []) ∷ []) (cond w ([] ∷ []) ((b ∷ []) ∷ []))
 last_lines b true e = (inr (ap (λ x. let all : List ℕ = x ∷ [] in all) (eqb-true b carriage_return e)), tt)
 last_lines b false e = (inl refl, tt)
-
-and_true : (x : Bool) → (x && true) ≡ x
-and_true true = refl
-and_true false = refl
 
 last_cut : (b : ℕ) (v : Bool) → (b == line_feed) ≡ v
     → AreCut (lines_of (b ∷ [])) (lines_of (cond v (b ∷ []) (b ∷ line_end)))

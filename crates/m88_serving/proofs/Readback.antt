@@ -6,7 +6,7 @@ use Rattle.std.proofs.Common.{refl, ap, ◌∙◌, arith}
 use Rattle.std.proofs.lemmas.Bool.Decides.{nat_tests}
 use Rattle.std.proofs.lemmas.List.Folds.{list_all-append}
 use Rattle.std.proofs.lemmas.List.Elements.{All-head, All-tail}
-use Rattle.m88_base.proofs.Laws.{hex8_of-hex8}
+use Rattle.m88_base.proofs.Laws.{hex8_of-hex8, no_lines}
 use Rattle.m88_base.specs.Hex.{hex8, hex_digit}
 use Rattle.m88_base.specs.Lines.{lines_of, on_first_line}
 use Rattle.m88_base.specs.declared.triple.Triple.{Triple}
@@ -168,10 +168,6 @@ plain_word : (word : ℕ × ℕ) → list_all plain (word_text word) ≡ true
 plain_word word = plain_more (codes "mem ") (codes " " ++ hex8 word.1) word.0 refl (plain_last (codes " ") word.1 refl)
 
 -- the lines of words
-no_lines : lines_of [] ≡ []
-unfolding lines_of
-no_lines = refl
-
 word_lines : (words : List (ℕ × ℕ)) → lines_of (flat_map word_line words) ≡ map word_text words
 word_lines [] = no_lines
 word_lines (word ∷ words) =

@@ -19,9 +19,9 @@ use Rattle.m88_link.specs.declared.fault.LinkKind.TheVariants as kind
 use Rattle.m88_link.specs.declared.object.Reloc.{Reloc}
 use Rattle.m88_link.specs.declared.object.Symbol.{Symbol}
 use Rattle.m88_asm.specs.Counters.{at_begin}
-use Rattle.m88_asm.specs.Objects.{Head, first_heads, heads_in}
+use Rattle.m88_asm.specs.Objects.{Head}
 use Rattle.m88_asm.specs.Units.{extent_under, extents_in, section_length}
-use Rattle.m88_disasm.proofs.Laws.{Names, PartsData, RoomsAre, Sets, empty_first, hits_cons, lengths_behind, main, opened_in, opened_sections, parts_heads, parts_lengths, room, rooms_are, rooms_count, sets_heads, stood}
+use Rattle.m88_disasm.proofs.Laws.{Names, PartsData, RoomsAre, Sets, empty_first, heads_are, hits_cons, lengths_behind, main, opened_in, parts_heads, parts_lengths, room, rooms_are, rooms_count, stood}
 
 -- rooms: two without a part, and those of the parts
 pub record AreRoomed (runs : List Placed) (es : List Extent) : Type 0 where
@@ -30,11 +30,6 @@ pub record AreRoomed (runs : List Placed) (es : List Extent) : Type 0 where
   pub others : List Extent
   pub extents : es ≡ first ∷ second ∷ others
   pub are : RoomsAre others runs
-
-heads_are : (Named : Names) (sets xs : List Statement) → Sets Named sets
-    → heads_in (main (sets ++ xs)) ≡ first_heads 1 ++ opened_in xs
-heads_are Named sets xs are =
-    ap (λ (hs : List Head). first_heads 1 ++ hs) (opened_sections at_begin (sets ++ xs) ∙ sets_heads Named sets xs are)
 
 pub are_roomed : (Named : Names) (runs : List Placed) (sets xs : List Statement) → Sets Named sets
     → PartsData Named runs xs → AreRoomed runs (extents_in (stood (sets ++ xs)))

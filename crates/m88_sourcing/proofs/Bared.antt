@@ -4,6 +4,7 @@ use Rattle.std.specs.Prelude.{IfSome, Option, None, Some, map}
 use Rattle.std.proofs.lemmas.List.{length-replicate, replicate-append-replicate}
 use Rattle.std.proofs.lemmas.List.Concat.{flat_map-append}
 use Rattle.m88_base.specs.Placed.{Placed}
+use Rattle.m88_base.proofs.Laws.{AreBytes}
 use Rattle.m88_parse.specs.declared.unit.Body.{Body}
 use Rattle.m88_parse.specs.declared.unit.Body.TheVariants as body
 use Rattle.m88_parse.specs.declared.unit.Statement.{Statement}
@@ -11,7 +12,7 @@ use Rattle.m88_link.specs.declared.object.Symbol.{Symbol}
 use Rattle.m88_asm.specs.Counters.{at_begin, length_at}
 use Rattle.m88_asm.specs.Objects.{labels_at, opened_by, sets_at}
 use Rattle.m88_disasm.specs.Read.{unlabelled}
-use Rattle.m88_disasm.proofs.Laws.{AreBytes, ArePieces, Data, Gives, HasName, Names, PartsData, Sets, a_set, more_data, more_parts, names_in, names_of, no_data, no_parts, no_set}
+use Rattle.m88_disasm.proofs.Laws.{ArePieces, Data, Gives, HasName, Names, PartsData, Sets, a_set, more_data, more_parts, names_in, names_of, no_data, no_parts, no_set}
 use Rattle.m88_sourcing.proofs.Names.{name_before, name_behind}
 use Rattle.m88_sourcing.proofs.Skeleton.{bare, bared, skeleton, skeleton_behind}
 

@@ -1,9 +1,11 @@
 -- The pieces of an image, and the lines of words, stretches and pieces before the others.
 use Rattle.std.proofs.Common.{◌≡◌, ℕ, zero, suc, ◌+◌, ◌*◌, ◌-◌, ◌/◌, ◌%◌, ◌<◌, Bool, inl, inr, List, [], ◌∷◌, ◌++◌, take, drop, refl, ap, subst, ◌∙◌, arith}
 use Rattle.std.specs.Prelude.{◌↔◌, None}
+use Rattle.m88_base.specs.Appended.{AreAppended}
 use Rattle.m88_base.specs.Found.{IsPart}
 use Rattle.m88_base.specs.Image.{ProgramImage, byte_at}
 use Rattle.m88_base.specs.Lines.{line_end}
+use Rattle.m88_base.proofs.Laws.{line_before}
 use Rattle.m88_isa.specs.Address.{word_address}
 use Rattle.m88_isa.specs.declared.instr.Instr.{Instr}
 use Rattle.m88_disasm.specs.Listing.{place_line}
@@ -11,7 +13,7 @@ use Rattle.m88_sourcing.specs.Code.{HasInstruction, InCode, IsCode, IsReached, H
 use Rattle.m88_sourcing.specs.Code.IsCode.{reached, in_slot}
 use Rattle.m88_sourcing.specs.Code.IsReached.{begins, leads}
 use Rattle.m88_sourcing.specs.Data.{AreDataLines}
-use Rattle.m88_sourcing.specs.Inside.Appended.{FrontAppended, AreAppended}
+use Rattle.m88_sourcing.specs.Inside.Appended.{FrontAppended}
 use Rattle.m88_sourcing.specs.Inside.Members.{among_words}
 use Rattle.m88_sourcing.specs.Labels.{HasLabel, code_text}
 use Rattle.m88_sourcing.specs.Source.{AreCodeLines, AreLooseLines, ArePieceLines, IsLabelled, IsPiece, IsStartMarked, IsStretch, LineWhere}
@@ -20,7 +22,7 @@ use Rattle.m88_sourcing.specs.Source.AreCodeLines.{no_word, word}
 use Rattle.m88_sourcing.specs.Source.AreLooseLines.{stretch}
 use Rattle.m88_sourcing.specs.Source.ArePieceLines.{code, loose}
 use Rattle.m88_sourcing.proofs.OneInstruction.{no_byte_within}
-use Rattle.m88_sourcing.proofs.Appending.{front_all, line_before, lines_before}
+use Rattle.m88_sourcing.proofs.Appending.{front_all, lines_before}
 
 -- the bytes of a word are code together
 pub same_word : (words : ℕ → Bool) (a b : ℕ) → a / 4 ≡ b / 4 → among_words words a ≡ among_words words b

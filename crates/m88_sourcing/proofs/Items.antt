@@ -6,12 +6,13 @@ use Rattle.std.proofs.lemmas.Bool.Decides.{nat_tests}
 use Rattle.std.proofs.lemmas.List.{drop-drop, length-drop}
 use Rattle.std.proofs.lemmas.List.Sums.{prefix_len-le-length}
 use Rattle.m88_base.specs.Lines.{line_end}
+use Rattle.m88_base.proofs.Laws.{line_before}
 use Rattle.m88_sourcing.specs.Data.{AreDataLines, fewest_printed, is_own_end, is_printed, is_word_here, item_here, item_length, item_line, most_in_line, printed_here, text_ended, text_here, words_here, zeros_here}
 use Rattle.m88_sourcing.specs.Data.AreDataLines.{item}
 use Rattle.m88_sourcing.specs.Inside.Appended.{FrontAppended}
 use Rattle.m88_sourcing.specs.declared.item.Item.{Item}
 use Rattle.m88_sourcing.specs.declared.item.Item.TheVariants.{Zeros, Text, Words, Lone}
-use Rattle.m88_sourcing.proofs.Appending.{line_before, more_front}
+use Rattle.m88_sourcing.proofs.Appending.{more_front}
 
 -- a text is no longer than the bytes
 ended_fits : (n : ℕ) (xs : List ℕ) → text_ended n xs ≤ n + length xs

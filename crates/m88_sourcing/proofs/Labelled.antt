@@ -211,10 +211,6 @@ near_back words at low fits = by words fits
         ∙ near_from n f
 
 -- the same of a field of 16 bits
-pub wider : (words : ℤ) → FitsWords 15 words → FitsWords 25 words
-wider (pos n) fits = omega arith
-wider (negsuc n) fits = omega arith
-
 near16_on : (n : ℕ) → n < 2 ^ 15 → is_near 16 (4 * n) ≡ true
 near16_on n fits = grind (arith, nat_tests)
 

@@ -8,9 +8,10 @@ use Rattle.std.proofs.lemmas.List.Sums.{sum_by-cons}
 use Rattle.m88_base.specs.Found.{IsPart}
 use Rattle.m88_base.specs.Image.{ProgramImage, byte_at, most_bytes}
 use Rattle.m88_base.specs.Placed.{AreApart, Placed, count_among}
+use Rattle.m88_base.proofs.Laws.{AreBytes, bytes_dropped}
 use Rattle.m88_isa.specs.Address.{word_address}
 use Rattle.m88_disasm.specs.Listing.{place_line}
-use Rattle.m88_disasm.proofs.Laws.{AreBytes, ArePieces}
+use Rattle.m88_disasm.proofs.Laws.{ArePieces}
 use Rattle.m88_sourcing.specs.Code.{InCode, IsCode, HoldsInstruction}
 use Rattle.m88_sourcing.specs.Labels.{code_text}
 use Rattle.m88_isa.specs.declared.instr.Instr.{Instr}
@@ -19,7 +20,6 @@ use Rattle.m88_sourcing.specs.Source.AreCodeLines.{no_word, word}
 use Rattle.m88_sourcing.specs.Source.ArePieceLines.{code, loose, no_piece}
 use Rattle.m88_sourcing.specs.Source.AreSourceLines.{no_part, part}
 use Rattle.m88_sourcing.proofs.Cutting.{no_code_there}
-use Rattle.m88_sourcing.proofs.Listed.{bytes_dropped}
 use Rattle.m88_sourcing.proofs.Rebuilt.{EachPart, ToldParts, in_above, instruction_first, told_parts}
 use Rattle.m88_sourcing.proofs.Runs.{InParts, ToldPart, ToldRuns, code_piece, loose_piece, loose_whole, piece_part, runs_as, runs_both, runs_from, runs_none, told_pieces}
 use Rattle.m88_sourcing.proofs.Told.{Among, HasBytes, Told, code_whole, has_behind, has_front, told_code}

@@ -1,5 +1,5 @@
 -- The lines of a source as statements that give the bytes of its pieces.
-use Rattle.std.proofs.Common.{◌≡◌, ℕ, zero, suc, ◌+◌, ◌*◌, ◌%◌, ◌<◌, ◌≤◌, ◌^◌, Bool, true, false, ◌==◌, List, [], ◌∷◌, ◌++◌, length, take, drop, replicate, refl, sym, ap, subst, ◌∙◌, arith, get_or, eqb-true}
+use Rattle.std.proofs.Common.{◌≡◌, ℕ, zero, suc, ◌+◌, ◌*◌, ◌%◌, ◌<◌, ◌≤◌, ◌^◌, Bool, true, false, ◌==◌, List, [], ◌∷◌, ◌++◌, length, take, drop, replicate, refl, sym, ap, subst, ◌∙◌, arith, eqb-true}
 use Rattle.std.specs.Prelude.{cond, flat_map, if◌then◌else◌, map, nat_le, nat_lt}
 use Rattle.std.specs.Int.{from_be_bytes, to_be_bytes, w32}
 use Rattle.std.specs.List.{AllByRecursion}
@@ -8,6 +8,7 @@ use Rattle.std.proofs.Math.Seq.{take-add}
 use Rattle.std.proofs.lemmas.List.{length-drop, length-replicate, length-take-le, take-append-drop}
 use Rattle.std.proofs.lemmas.List.Sums.{prefix_len-le-length}
 use Rattle.std.proofs.lemmas.Nat.{be_bytes_4}
+use Rattle.m88_base.proofs.Laws.{AreBytes, byte_below, bytes_dropped}
 use Rattle.m88_parse.specs.declared.unit.Body.TheVariants as body
 use Rattle.m88_parse.specs.declared.unit.Statement.{Statement}
 use Rattle.m88_parse.specs.declared.unit.Value.TheVariants.{Number}
@@ -15,7 +16,7 @@ use Rattle.m88_asm.specs.Filled.{filled_word}
 use Rattle.m88_disasm.specs.Listing.{lone_byte_line}
 use Rattle.m88_disasm.specs.Read.{unlabelled}
 use Rattle.m88_asm.specs.Objects.{uses_in_values}
-use Rattle.m88_disasm.proofs.Laws.{AreBytes, Data, Gives, IsUse, Names, SpokenAs, Stated, gives_byte, more_data, names_in, names_of, no_data, said_byte, spoken}
+use Rattle.m88_disasm.proofs.Laws.{Data, Gives, IsUse, Names, SpokenAs, Stated, gives_byte, more_data, names_in, names_of, no_data, said_byte, spoken}
 use Rattle.m88_sourcing.specs.Data.{AreDataLines, is_own_end, is_printed, is_word_here, item_here, item_length, item_line, most_in_line, printed_here, text_ended, text_here, words_here, whole_words, zeros_here}
 use Rattle.m88_sourcing.specs.Data.AreDataLines.{item, no_line}
 use Rattle.m88_sourcing.specs.declared.item.Item.{Item}
@@ -147,21 +148,6 @@ text_stands bytes = by (nat_lt (printed_here bytes) 8)
     by false = ended (drop (printed_here bytes) bytes) refl
 
 -- words
-pub bytes_dropped : (n : ℕ) (bytes : List ℕ) → AreBytes bytes → AreBytes (drop n bytes)
-bytes_dropped zero bytes h = h
-bytes_dropped (suc n) [] h = tt
-bytes_dropped (suc n) (b ∷ bytes) h = bytes_dropped n bytes h.1
-
-pub bytes_taken : (n : ℕ) (bytes : List ℕ) → AreBytes bytes → AreBytes (take n bytes)
-bytes_taken zero bytes h = tt
-bytes_taken (suc n) [] h = tt
-bytes_taken (suc n) (b ∷ bytes) h = (h.0, bytes_taken n bytes h.1)
-
-below : (bs : List ℕ) → AreBytes bs → (i : ℕ) → get_or bs i 0 < 256
-below [] h i = omega arith
-below (b ∷ bs) h zero = h.0
-below (b ∷ bs) h (suc i) = below bs h.1 i
-
 record FirstWord (bytes : List ℕ) : Type 0 where
   small : from_be_bytes w32 (take 4 bytes) < 2 ^ 32
   back : to_be_bytes w32 (from_be_bytes w32 (take 4 bytes)) ≡ take 4 bytes
@@ -176,7 +162,7 @@ first_word (a ∷ b ∷ c ∷ d ∷ bytes) long h =
       small = omega (arith, ha, hb, hc, hd);
       back =
           be_bytes_4 (a ∷ b ∷ c ∷ d ∷ []) (from_be_bytes w32 (a ∷ b ∷ c ∷ d ∷ [])) refl
-          (below (a ∷ b ∷ c ∷ d ∷ []) (ha, (hb, (hc, (hd, tt))))) refl;
+          (byte_below (a ∷ b ∷ c ∷ d ∷ []) (ha, (hb, (hc, (hd, tt))))) refl;
     }
 first_word [] long h = absurd (omega (arith, long))
 first_word (a ∷ []) long h = absurd (omega (arith, long))

@@ -10,6 +10,7 @@ use Rattle.std.proofs.lemmas.Map.Views.{btree_set_contains_iff}
 use Rattle.m88_base.specs.Image.{ProgramImage, parts}
 use Rattle.m88_base.specs.Lines.{text_of_lines}
 use Rattle.m88_base.specs.Placed.{Placed}
+use Rattle.m88_disasm.proofs.Laws.{one_more}
 use Rattle.m88_sourcing.specs.Code.{InCode}
 use Rattle.m88_sourcing.specs.Data.{AreDataLines}
 use Rattle.m88_sourcing.specs.Data.AreDataLines.{no_line, item}
@@ -31,9 +32,6 @@ one_where P line _ _ (not_so none) (not_so none2) = refl
 
 joined : (a b c d : List (List ℕ)) → a ≡ b → c ≡ d → a ++ c ≡ b ++ d
 joined a b c d e f = cc
-
-one_more : (l m : List ℕ) (ls ms : List (List ℕ)) → l ≡ m → ls ≡ ms → l ∷ ls ≡ m ∷ ms
-one_more l m ls ms e f = cc
 
 one_code : (put : ℕ → List (List ℕ)) (image : ProgramImage) (entries : List ℕ) (at n : ℕ) (ls ms : List (List ℕ))
     → AreCodeLines put image entries at n ls → AreCodeLines put image entries at n ms → ls ≡ ms

@@ -5,6 +5,7 @@ use Rattle.std.proofs.lemmas.Bool.{cases_lt}
 use Rattle.std.proofs.lemmas.List.Concat.{flat_map-append}
 use Rattle.m88_base.specs.Image.{IsImage, ProgramImage, byte_at, most_bytes, parts}
 use Rattle.m88_base.specs.Placed.{Placed, count_among}
+use Rattle.m88_base.proofs.Laws.{AreBytes}
 use Rattle.m88_parse.specs.declared.unit.Body.TheVariants as body
 use Rattle.m88_parse.specs.declared.unit.Statement.{Statement}
 use Rattle.m88_link.specs.declared.object.Symbol.{Symbol}
@@ -13,7 +14,7 @@ use Rattle.m88_asm.specs.Counters.{at_begin, length_at}
 use Rattle.m88_asm.specs.Objects.{labels_at, sets_at}
 use Rattle.m88_asm.specs.Units.{extents_in}
 use Rattle.m88_disasm.specs.Read.{unlabelled}
-use Rattle.m88_disasm.proofs.Laws.{AreBytes, AreInOrder, AreOnce, ArePieces, Data, HasName, IsWritten, Names, PartsData, Sets, a_set, data_behind, more_data, more_parts, names_in, names_of, no_set, stood, unit_of}
+use Rattle.m88_disasm.proofs.Laws.{AreInOrder, AreOnce, ArePieces, Data, HasName, IsWritten, Names, PartsData, Sets, a_set, data_behind, more_data, more_parts, names_in, names_of, no_set, stood, unit_of}
 use Rattle.m88_sourcing.specs.Insertion.{IsAgainAt}
 use Rattle.m88_sourcing.specs.Insertion.IsAgainAt.{carried, stays}
 use Rattle.m88_sourcing.specs.Labels.{label_of}

@@ -4,6 +4,7 @@ use Rattle.std.specs.Prelude.{◌↔◌, None, Some}
 use Rattle.std.proofs.lemmas.List.{drop_all}
 use Rattle.std.proofs.lemmas.Option.{get_or_from_slice_get, slice_get_within}
 use Rattle.std.specs.FinSet.{contains}
+use Rattle.m88_base.specs.Appended.{AreAppended}
 use Rattle.m88_base.specs.Found.{IsPart}
 use Rattle.m88_base.specs.Image.{ProgramImage, byte_at}
 use Rattle.m88_base.specs.Lines.{line_end}
@@ -11,7 +12,7 @@ use Rattle.m88_base.specs.Placed.{Placed}
 use Rattle.m88_isa.specs.Address.{word_address}
 use Rattle.m88_disasm.specs.Listing.{place_line}
 use Rattle.m88_sourcing.specs.Code.{HasInstruction, InCode}
-use Rattle.m88_sourcing.specs.Inside.Appended.{FrontAppended, AreAppended}
+use Rattle.m88_sourcing.specs.Inside.Appended.{FrontAppended}
 use Rattle.m88_sourcing.specs.Inside.Members.{AsAt, OutlinesImage, among_words}
 use Rattle.m88_sourcing.specs.Source.{AreCodeLines, AreLooseLines, AreSourceLines, ArePieceLines, IsPiece}
 use Rattle.m88_sourcing.specs.Source.AreSourceLines.{no_part, part}

@@ -8,17 +8,16 @@ use Rattle.std.proofs.lemmas.List.Concat.{flat_map-append}
 use Rattle.std.proofs.lemmas.List.Sums.{sum_by-append, sum_by-cons}
 use Rattle.m88_base.specs.Image.{ProgramImage}
 use Rattle.m88_base.specs.Placed.{Placed, byte_among, byte_in, count_among}
-use Rattle.m88_base.proofs.Laws.{byte_among-append, byte_in-join}
+use Rattle.m88_base.proofs.Laws.{AreBytes, byte_among-append, byte_in-join, bytes_dropped, bytes_taken}
 use Rattle.m88_isa.specs.Address.{word_address}
 use Rattle.m88_parse.specs.declared.unit.Body.TheVariants as body
 use Rattle.m88_parse.specs.declared.unit.Statement.{Statement}
 use Rattle.m88_disasm.specs.Listing.{place_line}
 use Rattle.m88_disasm.specs.Read.{unlabelled}
-use Rattle.m88_disasm.proofs.Laws.{AreBytes, AreInOrder, ArePieces, Names, PartsData, Stated, more_parts, names_in, names_of, no_parts, none_in, said_place, spoken, stated_behind}
+use Rattle.m88_disasm.proofs.Laws.{AreInOrder, ArePieces, Names, PartsData, Stated, more_parts, names_in, names_of, no_parts, none_in, said_place, spoken, stated_behind}
 use Rattle.m88_sourcing.specs.Code.{InCode, IsCode}
 use Rattle.m88_sourcing.specs.Source.{AreCodeLines, AreLooseLines, ArePieceLines, IsPiece}
 use Rattle.m88_sourcing.specs.Source.ArePieceLines.{code, loose, no_piece}
-use Rattle.m88_sourcing.proofs.Listed.{bytes_dropped, bytes_taken}
 use Rattle.m88_sourcing.proofs.Names.{named}
 use Rattle.m88_sourcing.proofs.Places.{AllAt, IsBranchTo, IsSimple, all_anywhere, all_behind_parts, anywhere, has_behind_parts, has_in_front, no_branch}
 use Rattle.m88_sourcing.proofs.Told.{Among, AreThose, HasBranches, HasBytes, Told, has_behind, has_front, those_as, those_both, those_none, told_code, told_loose}

@@ -9,6 +9,7 @@ use Rattle.std.proofs.lemmas.Option.{slice_get_past}
 use Rattle.m88_base.specs.Image.{ProgramImage, byte_at}
 use Rattle.m88_base.specs.declared.fixup.Kind.{Kind}
 use Rattle.m88_base.specs.declared.fixup.Kind.TheVariants.{Pc16, Pc26}
+use Rattle.m88_base.proofs.Laws.{AreBytes, bytes_dropped, bytes_taken}
 use Rattle.m88_isa.specs.Address.{word_address}
 use Rattle.m88_isa.specs.Flow.{words_away}
 use Rattle.m88_isa.specs.Instr.{IsValid}
@@ -22,7 +23,7 @@ use Rattle.m88_parse.specs.Language.Names.{IsSymbolName}
 use Rattle.m88_parse.specs.declared.unit.Body.TheVariants as body
 use Rattle.m88_parse.specs.declared.unit.Statement.{Statement}
 use Rattle.m88_disasm.specs.Read.{said_body, unlabelled}
-use Rattle.m88_disasm.proofs.Laws.{AreBytes, AreOnce, Data, Gives, HasName, Names, SpokenAs, condition_part, data_behind, gives_instr, more_data, names_in, names_of, no_data, said_instr, spoken, start_symbol, stated_behind}
+use Rattle.m88_disasm.proofs.Laws.{AreOnce, Data, Gives, HasName, Names, SpokenAs, condition_part, data_behind, gives_instr, more_data, names_in, names_of, no_data, said_instr, spoken, start_symbol, stated_behind, wider}
 use Rattle.m88_sourcing.specs.Code.{InCode, IsCode, HoldsInstruction}
 use Rattle.m88_sourcing.specs.Flow.{branch_target}
 use Rattle.m88_sourcing.specs.Labels.{HasLabel, IsTarget, code_text, label_line, label_of}
@@ -33,8 +34,8 @@ use Rattle.m88_sourcing.specs.Source.AreCodeLines.{no_word, word}
 use Rattle.m88_sourcing.specs.Source.AreLooseLines.{no_byte, stretch}
 use Rattle.m88_sourcing.proofs.Cutting.{code_stands}
 use Rattle.m88_sourcing.proofs.OneInstruction.{same_instruction}
-use Rattle.m88_sourcing.proofs.Labelled.{label_symbol, marks, near16_back, near_back, said_branch_bit_to, said_branch_cond_to, said_branch_to, said_label, use_of, wider, words_back}
-use Rattle.m88_sourcing.proofs.Listed.{Listed, ListedData, ListedPlain, bytes_dropped, bytes_taken, listed_data}
+use Rattle.m88_sourcing.proofs.Labelled.{label_symbol, marks, near16_back, near_back, said_branch_bit_to, said_branch_cond_to, said_branch_to, said_label, use_of, words_back}
+use Rattle.m88_sourcing.proofs.Listed.{Listed, ListedData, ListedPlain, listed_data}
 use Rattle.m88_sourcing.proofs.Places.{AllAt, HasAt, IsBranchTo, IsPlain, IsSimple, branch_kind, all_behind_data, all_plain, has_behind_data, has_in_front}
 use Rattle.m88_sourcing.proofs.Names.{NameOnly, name_before, name_behind, named, once_both, only_behind, only_more}
 

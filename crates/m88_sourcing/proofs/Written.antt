@@ -4,10 +4,10 @@ use Rattle.std.specs.Prelude.{◌↔◌}
 use Rattle.std.proofs.lemmas.List.{map-append, take_more}
 use Rattle.std.proofs.lemmas.List.Concat.{flat_map-append}
 use Rattle.std.specs.FinSet.{contains}
+use Rattle.m88_base.specs.Appended.{AreAppended}
 use Rattle.m88_base.specs.Image.{ProgramImage, parts}
 use Rattle.m88_base.specs.Lines.{line_end, text_of_lines}
 use Rattle.m88_disasm.specs.Listing.{start_line}
-use Rattle.m88_sourcing.specs.Inside.Appended.{AreAppended}
 use Rattle.m88_sourcing.specs.Inside.Members.{OutlinesImage}
 use Rattle.m88_sourcing.specs.Source.{AreSourceLines, IsSource, LineWhere, far_line}
 use Rattle.m88_sourcing.specs.declared.outline.Outline.{Outline}

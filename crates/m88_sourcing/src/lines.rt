@@ -2,11 +2,11 @@
 ghost use Rattle.std.specs.Prelude.{◌≡◌, ◌*◌, ◌<◌, ◌≤◌, ◌++◌, ◌∷◌, IsTrue, OnOk, codes, flat_map, length, take};
 ghost use Rattle.std.specs.Int.{from_be_bytes, w32};
 ghost use Rattle.std.specs.FinSet.{contains};
+ghost use Rattle.m88_base.specs.Appended.{AreAppended};
 ghost use Rattle.m88_base.specs.Lines.{line_end};
 ghost use Rattle.m88_disasm.specs.Text.{hexadecimal};
 ghost use Rattle.m88_sourcing.specs.Data.{in_text, text_line, words_line, zeros_line};
 ghost use Rattle.m88_disasm.specs.Listing.{start_line};
-ghost use Rattle.m88_sourcing.specs.Inside.Appended.{AreAppended};
 ghost use Rattle.m88_sourcing.specs.Labels.{label_line, label_of};
 ghost use Rattle.m88_sourcing.specs.Source.{LineWhere, far_line};
 

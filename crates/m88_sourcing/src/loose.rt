@@ -1,10 +1,11 @@
 //! The lines of bytes that are no code.
 ghost use Rattle.std.specs.Prelude.{◌≡◌, ◌+◌, ◌++◌, ◌%◌, ◌<◌, ◌≤◌, ◌^◌, ℕ, List, IfOk, IsTrue, OnOk, drop, length};
 ghost use Rattle.std.specs.FinSet.{contains};
+ghost use Rattle.m88_base.specs.Appended.{AreAppended};
 ghost use Rattle.m88_base.specs.Image.{ProgramImage};
 ghost use Rattle.m88_base.specs.Lines.{line_end};
 ghost use Rattle.m88_sourcing.specs.Data.{AreDataLines, item_length, item_line};
-ghost use Rattle.m88_sourcing.specs.Inside.Appended.{FrontAppended, AreAppended};
+ghost use Rattle.m88_sourcing.specs.Inside.Appended.{FrontAppended};
 ghost use Rattle.m88_sourcing.specs.Inside.Members.{OutlinesImage, IsOutlined};
 ghost use Rattle.m88_sourcing.specs.Source.{AreLooseLines, IsStretch};
 

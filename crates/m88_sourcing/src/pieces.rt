@@ -1,10 +1,11 @@
 //! The lines of the pieces of an image.
 ghost use Rattle.std.specs.Prelude.{◌≡◌, ◌⊎◌, ◌↔◌, ◌+◌, ◌*◌, ◌%◌, ◌<◌, ◌≤◌, ◌^◌, ℕ, suc, List, [], None, IfOk, IsTrue, OnOk, drop, length, slice_get};
 ghost use Rattle.std.specs.FinSet.{contains};
+ghost use Rattle.m88_base.specs.Appended.{AreAppended};
 ghost use Rattle.m88_base.specs.Found.{IsPart};
 ghost use Rattle.m88_base.specs.Image.{IsImage, byte_at, parts};
 ghost use Rattle.m88_sourcing.specs.Code.{HasInstruction};
-ghost use Rattle.m88_sourcing.specs.Inside.Appended.{FrontAppended, AreAppended};
+ghost use Rattle.m88_sourcing.specs.Inside.Appended.{FrontAppended};
 ghost use Rattle.m88_sourcing.specs.Inside.Members.{AsAt, OutlinesImage, IsOutlined, among_words};
 ghost use Rattle.m88_sourcing.specs.Labels.{HasLabel};
 ghost use Rattle.m88_sourcing.specs.Source.{AreCodeLines, AreSourceLines, ArePieceLines, IsPiece};

@@ -8,6 +8,7 @@ use Rattle.std.proofs.lemmas.Bool.Decides.{nat_tests}
 use Rattle.std.proofs.lemmas.Bool.{cases_lt}
 use Rattle.std.proofs.lemmas.List.{drop_all, drop-append-le, take-append-drop, take-append-le, take_all, length-drop, length-take-le}
 use Rattle.std.proofs.lemmas.List.Folds.{list_all-append}
+use Rattle.m88_base.proofs.Laws.{and_true}
 use Rattle.m88_srec.proofs.Cases.{by_bool}
 use Rattle.m88_srec.proofs.Framing.{pairs_halved}
 use Rattle.m88_srec.specs.Front.{front_of, is_hexadecimal}
@@ -161,10 +162,6 @@ pushed_short line b short =
     let none_more : drop 514 more ≡ [] = drop_all 514 more (omega (arith, size, short)) in
     let open_end : (length line == 514) ≡ false = grind (arith, nat_tests) in
     rw (all, none, all_more, none_more, open_end, size) refl
-
-and_true : (d : Bool) → (d && true) ≡ d
-and_true true = refl
-and_true false = refl
 
 -- and of a longer one
 pushed_long : (line : List ℕ) (b : ℕ) → 514 ≤ length line → front_with (front_of line) b ≡ front_of (line ++ b ∷ [])

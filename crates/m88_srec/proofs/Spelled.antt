@@ -7,6 +7,7 @@ use Rattle.std.proofs.lemmas.Bool.Decides.{nat_tests}
 use Rattle.m88_base.specs.Hex.{hex2, hex_digit}
 use Rattle.m88_base.specs.Lines.{lines_of, text_of_lines}
 use Rattle.m88_base.specs.Lines.{line_end}
+use Rattle.m88_base.proofs.Laws.{AreBytes}
 use Rattle.m88_srec.specs.Records.{are_more_pairs, bytes_in}
 use Rattle.m88_srec.proofs.Cases.{by_bool}
 
@@ -22,11 +23,6 @@ below_16 n = omega arith
 
 is_hex : (d : ℕ) → d < 16 → is_digit (hex_digit d) 16 ≡ true
 is_hex d h = let e = value_of_digit d h in rw e (lt-ltb d 16 h)
-
--- numbers that are bytes
-abbrev pub AreBytes : List ℕ → Type 0
-AreBytes [] = Unit {0}
-AreBytes (b ∷ bs) = (b < 256) × AreBytes bs
 
 -- bytes in digits are pairs
 pub pairs_of_bytes : (bs : List ℕ) → are_more_pairs (flat_map hex2 bs) ≡ true

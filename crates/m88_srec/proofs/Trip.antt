@@ -1,7 +1,6 @@
 -- The text that is written for an image is accepted and writes that image.
-use Rattle.std.proofs.Common.{◌≡◌, ℕ, zero, suc, ◌+◌, ◌-◌, ◌*◌, ◌^◌, ◌<◌, ◌≤◌, true, List, [], ◌∷◌, ◌++◌, length, map, get_or, take, drop, sym, refl, ap, ◌∙◌, subst, append_assoc, length-append, length-take, take-append-drop, arith, inl, inr}
-use Rattle.std.specs.Prelude.{Option, Some, None, IfSome, codes, slice_get}
-use Rattle.std.proofs.lemmas.Option.{slice_get-get_or}
+use Rattle.std.proofs.Common.{◌≡◌, ℕ, zero, suc, ◌+◌, ◌*◌, ◌^◌, ◌<◌, ◌≤◌, true, List, [], ◌∷◌, ◌++◌, length, map, take, drop, sym, refl, ap, ◌∙◌, subst, append_assoc, length-append, length-take, take-append-drop, arith, inl, inr}
+use Rattle.std.specs.Prelude.{None, codes}
 use Rattle.std.specs.Int.{to_be_bytes, w32}
 use Rattle.std.specs.List.{enumerate_from, flat_map}
 use Rattle.std.specs.Option.{option_or}
@@ -10,7 +9,7 @@ use Rattle.std.proofs.lemmas.List.Sums.{sum_by-cons}
 use mathlib.Core.Path.{fun_ext}
 use Rattle.m88_base.specs.Image.{IsImage, ProgramImage, byte_at, byte_count, parts}
 use Rattle.m88_base.specs.Found.{FindsBytes}
-use Rattle.m88_base.proofs.Laws.{byte_in-join, byte_in_above, byte_in_below, byte_in_from, none_below, option_or-none, option_or_assoc}
+use Rattle.m88_base.proofs.Laws.{AreBytes, behind_finds, byte_in-join, byte_in_above, byte_in_below, bytes_dropped, bytes_taken, option_or-none, option_or_assoc, part_bytes, part_ends}
 use Rattle.m88_base.specs.Pieces.{pieces}
 use Rattle.m88_base.specs.Placed.{AreApart, Placed, byte_among, byte_in, count_among}
 use Rattle.m88_base.specs.Image.{most_bytes}
@@ -22,7 +21,7 @@ use Rattle.m88_srec.specs.Records.{Entry, WritesEntry, check_of, counted, framed
 use Rattle.m88_srec.specs.Written.{data_line, data_lines, last_line, header_line, lines_for, part_lines, piece_line, record_line, srec_text}
 use Rattle.m88_srec.specs.declared.purpose.Purpose.TheVariants.{Header, Data, End}
 use Rattle.m88_srec.proofs.Cutting.{next_line, no_lines}
-use Rattle.m88_srec.proofs.Spelled.{AllInner, AreBytes, AreInner, bytes_of_digits, digits_are_inner, lines_of_text, pairs_of_bytes}
+use Rattle.m88_srec.proofs.Spelled.{AllInner, AreInner, bytes_of_digits, digits_are_inner, lines_of_text, pairs_of_bytes}
 
 -- bytes one behind the other
 bytes_append : (xs ys : List ℕ) → AreBytes xs → AreBytes ys → AreBytes (xs ++ ys)
@@ -150,16 +149,6 @@ no_data at loaded =
     let count : loaded.count ≡ loaded.count + 0 = omega arith in
     λ i. record { found = found i; count = count i }
 
-bytes_take : (n : ℕ) (xs : List ℕ) → AreBytes xs → AreBytes (take n xs)
-bytes_take zero xs h = tt
-bytes_take (suc n) [] h = tt
-bytes_take (suc n) (x ∷ xs) h = (h.0, bytes_take n xs h.1)
-
-bytes_drop : (n : ℕ) (xs : List ℕ) → AreBytes xs → AreBytes (drop n xs)
-bytes_drop zero xs h = h
-bytes_drop (suc n) [] h = tt
-bytes_drop (suc n) (x ∷ xs) h = bytes_drop n xs h.1
-
 -- nothing is found behind bytes
 free_behind : (at next : ℕ) (xs : List ℕ) (loaded : Loaded) → at + length xs ≤ next → ((a : ℕ) → at ≤ a → loaded.found a ≡ None)
     → (a : ℕ) → next ≤ a → (with_data at xs loaded).found a ≡ None
@@ -184,9 +173,9 @@ data_leads (suc fuel) at (b ∷ bs) loaded fits below few free h =
     let size = length-take 16 bytes in
     let long = length-drop 16 bytes in
     let cut = take-append-drop 16 bytes in
-    let first = one_line at piece loaded (omega (arith, size)) (omega (arith, size)) (omega (arith, size)) free (omega (arith, size)) (bytes_take 16 bytes h) in
+    let first = one_line at piece loaded (omega (arith, size)) (omega (arith, size)) (omega (arith, size)) free (omega (arith, size)) (bytes_taken 16 bytes h) in
     let rest = data_leads fuel next left more (omega (arith, long)) (omega (arith, size, long)) (omega (arith, size, long))
-    (free_behind at next piece loaded (omega arith) free) (bytes_drop 16 bytes h) in
+    (free_behind at next piece loaded (omega arith) free) (bytes_dropped 16 bytes h) in
     let whole : with_data next left more ≡ with_data at bytes loaded =
     behind at next piece left loaded refl ∙ ap (λ (xs : List ℕ). with_data at xs loaded) cut in
     subst (λ (later : Loaded). Leads (data_lines at bytes) loaded later) whole
@@ -280,39 +269,11 @@ text_is_accepted image apart pieces few start =
       found = refl;
     }
 
--- an address of a part
-in_part : (p : Placed) (k : ℕ) (b : ℕ) (ps : List Placed) → slice_get p.bytes k ≡ Some b → byte_among (p ∷ ps) (p.at + k) ≡ Some b
-in_part p k b ps e = ap (λ o. option_or o (byte_among ps (p.at + k))) (byte_in_from p.at p.bytes k ∙ e)
-
-some_fits : (o : Option ℕ) (a b : ℕ) → o ≡ Some b → IfSome o (λ c. (a < 2 ^ 32) × (c < 256)) → (a < 2 ^ 32) × (b < 256)
-some_fits o a b e h = subst (λ q. IfSome q (λ c. (a < 2 ^ 32) × (c < 256))) e h
-
-bytes_by_index : (bytes : List ℕ) → ((k b : ℕ) → slice_get bytes k ≡ Some b → b < 256) → AreBytes bytes
-bytes_by_index [] h = tt
-bytes_by_index (b ∷ bytes) h = (h 0 b refl, bytes_by_index bytes (λ k c e. h (suc k) c e))
-
--- the part behind others finds what they find
-behind_finds : (from : ℕ) (p : Placed) (ps : List Placed) → AreApart from (p ∷ ps) → FindsBytes (byte_among (p ∷ ps)) → FindsBytes (byte_among ps)
-behind_finds from p ps apart finds a =
-    elim (cases_lt a (p.at + length p.bytes + 1)) [
-      | inl low ↦ subst (λ o. IfSome o (λ c. (a < 2 ^ 32) × (c < 256))) (sym (none_below (p.at + length p.bytes + 1) ps a apart.2 low)) tt
-      | inr high ↦
-          subst (λ o. IfSome (option_or o (byte_among ps a)) (λ c. (a < 2 ^ 32) × (c < 256))) (byte_in_above p a (omega (arith, high))) (finds a)
-    ]
-
--- the end of a part is at most the end of all addresses
-part_ends : (p : Placed) (ps : List Placed) → 0 < length p.bytes → FindsBytes (byte_among (p ∷ ps)) → p.at + length p.bytes ≤ 2 ^ 32
-part_ends p ps some finds =
-    let k : ℕ = length p.bytes - 1 in
-    let found = slice_get-get_or p.bytes k 0 (omega arith) in
-    let fits = some_fits (byte_among (p ∷ ps) (p.at + k)) (p.at + k) (get_or p.bytes k 0) (in_part p k (get_or p.bytes k 0) ps found) (finds (p.at + k)) in
-    let low : p.at + k < 2 ^ 32 = fits.0 in
-    omega arith
-
+-- the parts of an image
 pieces_of : (from : ℕ) (ps : List Placed) → AreApart from ps → FindsBytes (byte_among ps) → ArePieces ps
 pieces_of from [] apart finds = tt
 pieces_of from (p ∷ ps) apart finds = (
-  bytes_by_index p.bytes (λ k b e. (some_fits (byte_among (p ∷ ps) (p.at + k)) (p.at + k) b (in_part p k b ps e) (finds (p.at + k))).1),
+  part_bytes p ps finds,
   part_ends p ps apart.1 finds,
   pieces_of (p.at + length p.bytes + 1) ps apart.2 (behind_finds from p ps apart finds),
 )

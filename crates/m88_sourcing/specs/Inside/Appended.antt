@@ -1,12 +1,7 @@
 -- What was appended to a text.
-use Rattle.std.specs.Prelude.{◌≡◌, ℕ, List, ◌++◌}
+use Rattle.std.specs.Prelude.{ℕ, List, ◌++◌}
+use Rattle.m88_base.specs.Appended.{AreAppended}
 use Rattle.m88_base.specs.Lines.{text_of_lines}
-
--- lines of this kind
-pub record AreAppended (Are : List (List ℕ) → Type 0) (old new : List ℕ) : Type 0 where
-  pub lines : List (List ℕ)
-  pub are : Are lines
-  pub text_is : new ≡ old ++ text_of_lines lines
 
 -- the first lines of a whole: with any lines that are the others they are it
 abbrev pub FrontAppended : (AreWhole AreOthers : List (List ℕ) → Type 0) → List ℕ → List ℕ → Type 0

@@ -1,7 +1,8 @@
 -- The lines so far are a script's, up to one that stops them.
 use Rattle.std.proofs.Common.{◌≡◌, length, rules, sym, ◌∙◌, true, false, arith}
 use Rattle.std.proofs.lemmas.Bool.{eqb-true}
-use Rattle.m88_cli.proofs.ScriptReading.{all_read, empty_of, one_line_more, stopped}
+use Rattle.m88_base.proofs.Laws.{empty_of}
+use Rattle.m88_cli.proofs.ScriptReading.{all_read, one_line_more, stopped}
 use Rattle.m88_cli.proofs.script.commands_in.Goals as goal
 
 pub returns-then-not-take_line-clause-fault : goal.returns-then-not-take_line-clause-fault

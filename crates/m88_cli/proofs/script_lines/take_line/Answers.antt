@@ -3,7 +3,8 @@ use Rattle.std.proofs.Common.{◌≡◌, [], ◌∷◌, ◌++◌, None, Some, le
 use Rattle.m88_cli.specs.Script.{AreScriptLines}
 use Rattle.m88_cli.specs.Inside.ScriptWords.{has_room}
 use Rattle.std.proofs.lemmas.Bool.{eqb-true}
-use Rattle.m88_cli.proofs.ScriptReading.{empty_of, not_empty}
+use Rattle.m88_base.proofs.Laws.{empty_of}
+use Rattle.m88_cli.proofs.ScriptReading.{not_empty}
 use Rattle.m88_cli.proofs.Scripts.{no_command, one_empty_more, one_more_fits, one_more_is_none}
 use Rattle.m88_cli.proofs.script_lines.take_line.Goals as goal
 
