@@ -1,6 +1,7 @@
 -- One instruction stands at an address.
 use Rattle.std.proofs.Common.{◌≡◌, ◌∙◌, ℕ, zero, suc, ◌+◌, ◌<◌, ◌≤◌, ◌^◌, List, [], ◌∷◌, Some, ap, arith, drop, inl, inr, length, length-drop, refl, slice_get, subst, sym, take}
-use Rattle.std.specs.Prelude.{IsSome, None, Option, unwrap_or}
+use Rattle.std.specs.Prelude.{Err, IfOk, IfSome, IsSome, None, Ok, Option, Result, unwrap_or}
+use Rattle.std.specs.Result.{result_ok}
 use Rattle.std.proofs.lemmas.Bool.{cases_lt}
 use Rattle.std.specs.Int.{from_be_bytes, to_be_bytes, w32}
 use Rattle.std.proofs.lemmas.Option.{same_Some}
@@ -132,3 +133,9 @@ rest_behind image at bytes rest long =
           let place : at + 4 + length (drop 4 bytes) ≡ at + length bytes = omega (arith, less, long) in
           ap (byte_at image) place ∙ rest.end;
     }
+
+-- what holds of each instruction of a word holds of the one that the word was decoded to, where there is one
+pub decoded : {E : Type 0} (r : Result Instr E) (word : ℕ) (P : Instr → Type 0) → ((i : Instr) → IsWord i word → P i)
+    → IfOk r (λ i. IsWord i word) → IfSome (result_ok r) P
+decoded (Ok i) word P each found = each i found
+decoded (Err e) word P each found = tt
