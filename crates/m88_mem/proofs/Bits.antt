@@ -4,6 +4,7 @@ use Rattle.std.specs.Int.{bit_at, bit_not, w32}
 use Rattle.std.proofs.lemmas.Bool.{cases_eq, cases_lt, eqb-true}
 use Rattle.std.proofs.lemmas.Bool.Decides.{nat_tests}
 use Rattle.std.proofs.lemmas.List.{get_or-set_same, get_or-replicate, get_or-set_other, length-replicate}
+use Rattle.std.proofs.lemmas.Nat.{le_or_l, or_lt}
 use Rattle.std.proofs.lemmas.Nat.Bits.{bit_at-zero, bit_at_clear_other, bit_at_clear_same, bit_at_ones, bit_at_set_other, bit_at_set_same}
 use Rattle.std.proofs.Math.ListN.{get_or-eq_default}
 use Rattle.m88_base.specs.Pages.{page_count}
@@ -49,6 +50,37 @@ marked_with words page p within = marked_set words page _ p within ∙ by_word (
         let test : (p / 32 == page / 32) ≡ false = grind (arith, nat_tests) in
         let apart : (page == p) ≡ false = grind (arith, nat_tests) in
         rw (test, apart) refl
+
+-- a word that is full stays so where a bit is set
+pub full_with : (words : List ℕ) (place word bit k : ℕ) → place < length words →
+    word ≡ slice_index_or words place every_bit → bit < 2 ^ 32 → is_full words k ≡ true →
+    is_full (slice_set words place (bit_or word bit)) k ≡ true
+full_with words place word bit k within was small full = elim (cases_eq k place) [
+  | inl e ↦
+      let every : word ≡ every_bit =
+      was ∙ ap (λ i. slice_index_or words i every_bit) (sym e) ∙ eqb-true (slice_index_or words k every_bit) every_bit full in
+      let here : slice_index_or (slice_set words place (bit_or word bit)) k every_bit ≡ bit_or word bit =
+      ap (λ i. slice_index_or (slice_set words place (bit_or word bit)) i every_bit) e
+      ∙ get_or-set_same words place (bit_or word bit) every_bit within in
+      let low = le_or_l word bit in
+      let high = or_lt 32 word bit (omega (arith, every)) small in
+      let all : bit_or word bit ≡ every_bit = omega (arith, low, high, every) in
+      rw (here, all) refl
+  | inr ne ↦ rw (get_or-set_other words place k (bit_or word bit) every_bit ne) full
+]
+
+-- the same as a set with that page put in
+pub put_in : (set : ℕ → Bool) (page p : ℕ) → (page == p || set p) ≡ with_page page true set p
+put_in set page p = elim (cases_eq p page) [
+  | inl e ↦
+      let test : (p == page) ≡ true = grind (arith, nat_tests) in
+      let same : (page == p) ≡ true = grind (arith, nat_tests) in
+      rw (test, same) refl
+  | inr ne ↦
+      let test : (p == page) ≡ false = grind (arith, nat_tests) in
+      let apart : (page == p) ≡ false = grind (arith, nat_tests) in
+      rw (test, apart) refl
+]
 
 -- a page's bit is cleared
 pub marked_without : (words : List ℕ) (page p : ℕ) → page < length words * 32 →

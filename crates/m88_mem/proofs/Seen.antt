@@ -1,5 +1,5 @@
 -- Frames and bits as they are seen: page by page.
-use Rattle.std.proofs.Common.{◌≡◌, ℕ, zero, suc, ◌<◌, ◌≤◌, ◌+◌, ◌*◌, ◌/◌, ◌%◌, ◌^◌, Bool, ◌==◌, true, false, bit_and, List, Option, Some, None, get_or, is_some, unwrap_or, length, slice_get, slice_index_or, slice_set, if◌then◌else◌, refl, arith, ap, sym, ◌∙◌, inl, inr}
+use Rattle.std.proofs.Common.{◌≡◌, ℕ, zero, suc, ◌<◌, ◌≤◌, ◌+◌, ◌*◌, ◌/◌, ◌%◌, ◌^◌, Bool, ◌==◌, ◌||◌, true, false, bit_and, List, Option, Some, None, get_or, is_some, unwrap_or, length, slice_get, slice_index_or, slice_set, if◌then◌else◌, refl, arith, ap, sym, ◌∙◌, inl, inr}
 use Rattle.std.specs.Int.{bit_not, w32}
 use Rattle.std.proofs.lemmas.List.{length-set}
 use Rattle.std.proofs.lemmas.Option.{slice_get-get_or}
@@ -10,7 +10,7 @@ use Rattle.std.proofs.lemmas.Bool.Decides.{nat_tests}
 use Rattle.std.proofs.lemmas.Nat.Bits.{bit_at-zero}
 use Rattle.m88_base.specs.Image.{ProgramImage}
 use Rattle.m88_base.specs.Pages.{page_count, page_number}
-use Rattle.m88_mem.proofs.Bits.{marked_without}
+use Rattle.m88_mem.proofs.Bits.{marked_without, put_in}
 use Rattle.m88_mem.proofs.Words.{bus_by}
 use Rattle.m88_mem.specs.DataBus.{MemoryView, bus_of, image_bus, page_words, ready_of, word_in_page}
 use Rattle.m88_mem.specs.Inside.Changes.{GoesOver, HasComeTo}
@@ -94,6 +94,16 @@ seen_without words set page long seen within p =
     seen_marks _ (length-set words (page / 32) _ ∙ long) p
     ∙ marked_without words page p (omega (arith, long, within))
     ∙ ap (λ there. if p == page then false else there) (sym (seen_marks words long p) ∙ ap (λ s. is_in s p) seen)
+
+-- a set whose words gain a page
+pub seen_with : (words changed : List ℕ) (set : List Bool) (page : ℕ) → length words ≡ mark_words → length changed ≡ mark_words →
+    by_page (is_marked words) ≡ set → ((p : ℕ) → is_marked changed p ≡ (page == p || is_marked words p)) →
+    (p : ℕ) → is_in (by_page (is_marked changed)) p ≡ with_page page true (is_in set) p
+seen_with words changed set page long still seen marked p =
+    seen_marks changed still p
+    ∙ marked p
+    ∙ put_in (is_marked words) page p
+    ∙ ap (λ there. if p == page then true else there) (sym (seen_marks words long p) ∙ ap (λ s. is_in s p) seen)
 
 -- a set with a page put in that is in it
 pub still_there : (set : ℕ → Bool) (page : ℕ) → set page ≡ true → (p : ℕ) → set p ≡ with_page page true set p

@@ -72,6 +72,14 @@ impl PageMarks {
         self.words[place as usize] = word & !(1 << (page % PAGES));
     }
 
+    /// Puts a page into the set.
+    pub fn mark(&mut self, page: u32)
+        requires { IsPage page }
+        ensures { is_in self.new ≡ with_page page true (is_in self.old) }
+    {
+        set(&mut self.words, page);
+    }
+
     /// Whether a page is in the set.
     pub fn is_marked(&self, page: u32) -> bool
         requires { IsPage page }
@@ -197,6 +205,8 @@ fn set(words: &mut Vec<u32>, page: u32)
     ensures long { length words.new.items ≡ mark_words }
     ensures marked { (p : ℕ) → is_marked words.new.items p
         ≡ (page == p || is_marked words.old.items p) }
+    ensures full { (k : ℕ) → is_full words.old.items k ≡ true
+        → is_full words.new.items k ≡ true }
 {
     words[(page / PAGES) as usize] |= 1 << (page % PAGES);
 }

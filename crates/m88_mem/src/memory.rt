@@ -267,6 +267,21 @@ impl Memory {
         self.absent.clear(page);
     }
 
+    /// A page, by its number, is absent or present, whatever it was. The words stay, and whether it is ready.
+    pub fn set_absent(&mut self, page: u32, absent: bool)
+        requires { IsPage page }
+        ensures absent { absent_of self.new ≡ with_page page absent (absent_of self.old) }
+        ensures image { self.new.image ≡ self.old.image }
+        ensures bus { bus_of self.new ≡ bus_of self.old }
+        ensures ready { ready_of self.new ≡ ready_of self.old }
+    {
+        if absent {
+            self.absent.mark(page);
+        } else {
+            self.absent.clear(page);
+        }
+    }
+
     /// Every page is absent until it is supplied, also one that is ready. The words stay, and the pages that are ready.
     pub fn evict_all(&mut self)
         ensures absent { absent_of self.new ≡ every_page }
