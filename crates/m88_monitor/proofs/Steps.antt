@@ -1,5 +1,5 @@
 -- One triple's service in parts.
-use Rattle.std.specs.Prelude.{slice_get}
+use Rattle.std.specs.Prelude.{Option, is_some, slice_get}
 use Rattle.std.proofs.Common.{ℕ, zero, suc, ◌≡◌, ◌<◌, Bool, true, false, List, Some, if◌then◌else◌, refl, ap, arith, sym, ◌∙◌}
 use Rattle.m88_base.specs.Pages.{page_number}
 use Rattle.m88_base.specs.Reg.{with_register}
@@ -10,7 +10,8 @@ use Rattle.m88_isa.specs.Bus.{bus_after, loaded}
 use Rattle.m88_isa.specs.Triples.{access_in, is_valid_triple}
 use Rattle.m88_isa.specs.declared.planned.Access.{Access}
 use Rattle.m88_mem.specs.Marks.{with_page}
-use Rattle.m88_monitor.specs.Serving.{Serving, after_triple, triple_at, with_finished, with_loaded}
+use Rattle.m88_monitor.specs.Serving.{Serving, after_triple, served_access, triple_at, valid_count_of, with_finished, with_loaded}
+use Rattle.m88_monitor.specs.declared.served.ServedAccess.{ServedAccess}
 
 -- a triple by its place
 pub by_place : (index : ℕ) (c : ControlRegisters) (t : Triple) → index < 3 → slice_get (triples_by_age c) index ≡ Some t →
@@ -48,6 +49,13 @@ served_valid index s t a c1 c2 numbers bus absent et ev ea e1 e2 en eb eabs =
     let pages : absent ≡ with_page (page_number (access_in (triple_at index s.control)).addr) false s.absent =
     eabs ∙ ap (λ (x : Access). with_page (page_number x.addr) false s.absent) access in
     rw valid (λ i. record { control = control i; numbers = put i; bus = words i; absent = pages i })
+
+-- as many are counted as triples are valid
+pub counted : {made : Option ServedAccess} (t : Triple) (bus : ℕ → ℕ) → made ≡ served_access t bus
+    → (if is_some made then 1 else 0) ≡ valid_count_of t
+counted t bus e =
+    ap (λ (o : Option ServedAccess). if is_some o then 1 else 0) e
+    ∙ by_test (is_valid_triple t) (λ valid. rw valid refl) (λ none. rw none refl)
 
 -- a triple's service leaves the others
 pub second_kept : (s : Serving) → (after_triple 0 s).control.t1 ≡ s.control.t1

@@ -1,5 +1,5 @@
 -- How the monitor finishes the data transactions that a fault left ("Exception Processing": data access exception).
-use Rattle.std.specs.Prelude.{ℕ, Bool, true, false, List, ◌≡◌, ◌+◌, ◌-◌, ◌*◌, ◌%◌, ◌^◌, ◌==◌, if◌then◌else◌}
+use Rattle.std.specs.Prelude.{ℕ, Bool, true, false, List, Option, Some, None, ◌≡◌, ◌+◌, ◌-◌, ◌*◌, ◌%◌, ◌^◌, ◌==◌, if◌then◌else◌}
 use Rattle.std.specs.Int.{bit_at}
 use Rattle.m88_base.specs.Pages.{page_number}
 use Rattle.m88_base.specs.Reg.{number_of, with_register}
@@ -11,6 +11,7 @@ use Rattle.m88_isa.specs.Triples.{access_in, finished, is_valid_triple}
 use Rattle.m88_isa.specs.declared.planned.Access.{Access}
 use Rattle.m88_mem.specs.DataBus.{MemoryView, absent_of, bus_of, ready_of}
 use Rattle.m88_mem.specs.Marks.{with_page}
+use Rattle.m88_monitor.specs.declared.served.ServedAccess.{ServedAccess}
 use Rattle.m88_scoreboard.specs.Registers.{Registers, waiting_of}
 
 -- what the service changes: the control registers, the numbers in the registers, the words of the data bus, the absent
@@ -59,6 +60,15 @@ after_triple index s =
 -- the three triples in order, the oldest first
 abbrev pub after_service : Serving → Serving
 after_service s = after_triple 2 (after_triple 1 (after_triple 0 s))
+
+-- what a load puts into its register, of the words as they are before; 0 of a store
+abbrev pub datum_put : Access → (ℕ → ℕ) → ℕ
+datum_put a bus = if a.write then 0 else loaded a bus
+
+-- the access of a triple that is valid, and what it puts into a register
+abbrev pub served_access : Triple → (ℕ → ℕ) → Option ServedAccess
+served_access t bus =
+    if is_valid_triple t then Some (record { access = access_in t; datum = datum_put (access_in t) bus }) else None
 
 -- an access that can be made: the page of a store is ready
 pub record CanServe (ready : ℕ → Bool) (a : Access) : Type 0 where

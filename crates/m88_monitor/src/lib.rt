@@ -5,5 +5,5 @@ mod served;
 mod traps;
 
 pub use m88_isa::Service;
-pub use served::{Served, serve};
+pub use served::{Served, ServedAccess, serve, serve_triple};
 pub use traps::service;

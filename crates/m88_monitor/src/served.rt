@@ -1,14 +1,14 @@
 //! How the monitor finishes the data transactions that a fault left.
 #![tactic(auto, unfolding(m88_isa::specs::Bus::loaded, m88_isa::specs::Bus::stored))]
 
-ghost use Rattle.std.specs.Prelude.{◌≡◌, ◌<◌, ◌≤◌, false, slice_set};
+ghost use Rattle.std.specs.Prelude.{◌≡◌, ◌<◌, ◌≤◌, false, if◌then◌else◌, is_some, slice_set};
 ghost use Rattle.m88_base.specs.Pages.{page_number};
 ghost use Rattle.m88_base.specs.Reg.{number_of};
 ghost use Rattle.m88_ctrl.specs.ControlRegisters.{by_number, kept_of};
-ghost use Rattle.m88_mem.specs.DataBus.{absent_of, ready_of};
+ghost use Rattle.m88_mem.specs.DataBus.{absent_of, bus_of, ready_of};
 ghost use Rattle.m88_scoreboard.specs.Registers.{none_waits, waiting_of};
 ghost use Rattle.m88_monitor.specs.Inside.Making.{IsMade};
-ghost use Rattle.m88_monitor.specs.Serving.{CanServe, CanServeAll, CanServeTriple, KeepsRest, after_service, after_triple, serving_of, triple_at, valid_count, valid_count_of, with_finished, without_bit};
+ghost use Rattle.m88_monitor.specs.Serving.{CanServe, CanServeAll, CanServeTriple, KeepsRest, after_service, after_triple, datum_put, served_access, serving_of, triple_at, valid_count, with_finished, without_bit};
 
 use m88_base::{Reg, Triple};
 use m88_ctrl::{Control, cr};
@@ -21,6 +21,15 @@ use m88_scoreboard::RegFile;
 pub struct Served {
     /// How many triples were valid, at most three.
     pub done: u8,
+}
+
+/// The access of a transaction that the monitor finished.
+#[derive(Clone, Copy, PartialEq, Eq, Debug)]
+pub struct ServedAccess {
+    /// The access, as the words of its triple tell it.
+    pub access: Access,
+    /// The word that a load put into its register, 0 of a store.
+    pub datum: u32,
 }
 
 /// Finishes the transactions whose triples are valid, the oldest first: their pages are supplied, stores and
@@ -38,29 +47,46 @@ pub fn serve(ctrl: &mut Control, regs: &mut RegFile, memory: &mut Memory) -> Ser
     let second = serve_triple(ctrl, regs, memory, 1);
     let third = serve_triple(ctrl, regs, memory, 2);
     Served {
-        done: first + second + third,
+        done: count(&first) + count(&second) + count(&third),
     }
 }
 
-/// Finishes the transaction of a triple, if it is valid, and answers how many it was.
-fn serve_triple(ctrl: &mut Control, regs: &mut RegFile, memory: &mut Memory, index: usize) -> u8
+/// How many transactions were finished of one triple: one, or none where it isn't valid.
+fn count(served: &Option<ServedAccess>) -> u8
+    ensures { result ≡ (if is_some served.now then 1 else 0) }
+{
+    match served {
+        Some(_) => 1,
+        None => 0,
+    }
+}
+
+/// Finishes the transaction of the triple at a place, 0 the oldest, if it is valid: its page is supplied, its store or
+/// its load is made, the bit of a loaded register in SSBR is cleared, and VALID of the triple is cleared. Nothing else
+/// changes. The answer is its access, with what a load put into its register; None where the triple isn't valid.
+pub fn serve_triple(
+    ctrl: &mut Control,
+    regs: &mut RegFile,
+    memory: &mut Memory,
+    index: usize,
+) -> Option<ServedAccess>
     requires index { index < 3 }
     requires waiting { waiting_of regs.old ≡ none_waits }
     requires triple { CanServeTriple (ready_of memory.old) (triple_at index ctrl.old) }
     ensures served { serving_of ctrl.new regs.new memory.new
         ≡ after_triple index (serving_of ctrl.old regs.old memory.old) }
-    ensures count { result ≡ valid_count_of (triple_at index ctrl.old) }
+    ensures access { result ≡ served_access (triple_at index ctrl.old) (bus_of memory.old) }
     ensures keeps { KeepsRest regs.old memory.old regs.new memory.new }
 {
     let triple = triple_at(ctrl, index);
     if !is_valid_triple(&triple) {
-        return 0;
+        return None;
     }
     let access = access_in(&triple);
     memory.supply(access.addr / PAGE_BYTES);
-    make(ctrl, regs, memory, &access);
+    let datum = make(ctrl, regs, memory, &access);
     finish(ctrl, index, &triple);
-    1
+    Some(ServedAccess { access, datum })
 }
 
 /// The triple at a place, 0 the oldest.
@@ -71,12 +97,14 @@ fn triple_at(ctrl: &Control, index: usize) -> Triple
     ctrl.triple(index)
 }
 
-/// Makes an access whose page is present: a store, or a load into its register, whose bit in SSBR is cleared.
-fn make(ctrl: &mut Control, regs: &mut RegFile, memory: &mut Memory, access: &Access)
+/// Makes an access whose page is present: a store, or a load into its register, whose bit in SSBR is cleared. The
+/// answer is what a load puts there, 0 of a store.
+fn make(ctrl: &mut Control, regs: &mut RegFile, memory: &mut Memory, access: &Access) -> u32
     requires serve { CanServe (ready_of memory.old) access.now }
     requires present { absent_of memory.old (page_number access.now.addr) ≡ false }
     requires waiting { waiting_of regs.old ≡ none_waits }
-    ensures { IsMade access.now ctrl.old regs.old memory.old ctrl.new regs.new memory.new }
+    ensures made { IsMade access.now ctrl.old regs.old memory.old ctrl.new regs.new memory.new }
+    ensures datum { result ≡ datum_put access.now (bus_of memory.old) }
 {
     if access.write {
         if memory
@@ -85,11 +113,13 @@ fn make(ctrl: &mut Control, regs: &mut RegFile, memory: &mut Memory, access: &Ac
         {
             unreachable!();
         }
-        return;
+        return 0;
     }
     let word = memory.word(access.addr);
-    regs.set(access.reg, datum(access.en, access.signed, word));
+    let loaded = datum(access.en, access.signed, word);
+    regs.set(access.reg, loaded);
     end_wait(ctrl, access.reg);
+    loaded
 }
 
 /// Clears the bit of a register in SSBR.
