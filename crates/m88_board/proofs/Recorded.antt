@@ -18,9 +18,8 @@ use Rattle.m88_isa.specs.Bus.{LoadApart, waits_for}
 use Rattle.m88_isa.specs.Memory.{IsWordAccess}
 use Rattle.m88_isa.specs.Triples.{finished, triple_or_none}
 use Rattle.m88_isa.specs.declared.planned.Access.{Access}
-use Rattle.m88_monitor.proofs.Laws.{same_triple}
+use Rattle.m88_monitor.proofs.Laws.{same_triple, steps_of, three_steps}
 use Rattle.m88_monitor.specs.Serving.{Serving, after_service, with_finished, with_loaded, without_bit}
-use Rattle.m88_board.proofs.Service.{steps_of, three_steps}
 use Rattle.m88_board.specs.Shown.{IsRecordOf, ShowsFault, rest_of}
 
 -- a set without one register, bit by bit: below the register nothing changes, above it its weight is gone

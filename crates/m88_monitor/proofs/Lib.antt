@@ -1,4 +1,6 @@
--- What only helps the proofs: a word with a bit cleared, and one triple's service in parts; Laws is for those above.
+-- What only helps the proofs: a word with a bit cleared, one triple's service in parts, and the triples of accesses; Laws
+-- is for those above.
 pub mod Cleared
 pub mod Steps
+pub mod Pending
 pub mod Laws

@@ -7,10 +7,11 @@ use Rattle.m88_ctrl.specs.ControlRegisters.{ControlRegisters}
 use Rattle.m88_ctrl.specs.declared.frame.Frame.{Frame}
 use Rattle.m88_isa.specs.Bus.{after_accesses}
 use Rattle.m88_mem.specs.DataBus.{bus_of, ready_of}
+use Rattle.m88_monitor.proofs.Laws.{served_cells}
 use Rattle.m88_monitor.specs.Serving.{Serving, serving_of}
 use Rattle.m88_board.proofs.Waiting.{no_members}
 use Rattle.m88_board.proofs.Recorded.{IsServed, rest_served, served_control, shows_fault}
-use Rattle.m88_board.proofs.Service.{can_serve, served_absent, served_cells}
+use Rattle.m88_board.proofs.Service.{can_serve, served_absent}
 use Rattle.m88_board.specs.Shown.{rest_of}
 use Rattle.m88_board.proofs.serving.serve_all.Goals as goal
 
