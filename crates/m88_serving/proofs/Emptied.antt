@@ -1,6 +1,6 @@
 -- Behind the service of what is accepted SSBR is empty: it is the set of the registers that are loaded, and each load
 -- clears its own.
-use Rattle.std.specs.Prelude.{ℕ, zero, suc, Bool, true, false, not, [], ◌∷◌, ◌≡◌, ◌≢◌, ◌<◌, ◌≤◌, ◌+◌, ◌-◌, ◌*◌, ◌^◌, ◌==◌, ◌&&◌, ◌||◌, if◌then◌else◌}
+use Rattle.std.specs.Prelude.{ℕ, zero, suc, Bool, true, false, not, ◌≡◌, ◌≢◌, ◌<◌, ◌≤◌, ◌+◌, ◌-◌, ◌*◌, ◌^◌, ◌==◌, ◌&&◌, ◌||◌, if◌then◌else◌}
 use Rattle.std.proofs.Common.{refl, sym, ap, ◌∙◌, arith}
 use Rattle.std.proofs.Math.Path.{fun_ext}
 use Rattle.std.proofs.lemmas.Bool.{eqb-true, eqb-false}
@@ -9,19 +9,20 @@ use Rattle.m88_base.proofs.Laws.{bit_of_set}
 use Rattle.m88_base.specs.Reg.{number_of}
 use Rattle.m88_base.specs.RegisterSet.{bits_below, register_bits}
 use Rattle.m88_base.specs.declared.triple.Triple.{Triple}
+use Rattle.m88_ctrl.specs.ControlRegisters.{ControlRegisters, triples_by_age}
 use Rattle.m88_event.specs.declared.record.Record.{Record}
 use Rattle.m88_isa.proofs.Laws.{beyond_waits_not, by_test}
 use Rattle.m88_isa.specs.Bus.{waits_for}
 use Rattle.m88_isa.specs.Triples.{access_in, accesses_in, is_valid_triple}
-use Rattle.m88_monitor.specs.Serving.{without_bit}
+use Rattle.m88_monitor.proofs.Laws.{second_kept, third_kept, third_kept_again}
+use Rattle.m88_monitor.specs.Serving.{Serving, after_access_at, after_service, after_triple, triple_at, with_finished, with_loaded, without_bit}
 use Rattle.m88_scoreboard.specs.Registers.{none_waits}
-use Rattle.m88_serving.specs.Faults.{awaited_set, triple_of_record}
+use Rattle.m88_serving.specs.Faults.{awaited_set}
 use Rattle.m88_serving.specs.Laws.{EachLeavesNoneWaiting}
 use Rattle.m88_serving.specs.Serving.{serving_of_case}
-use Rattle.m88_serving.specs.Inside.Steps.{Held, held_after, held_behind, handled, with_load}
-use Rattle.m88_serving.proofs.Held.{all_held, served, unserved}
+use Rattle.m88_serving.specs.Inside.Loads.{with_load}
 use Rattle.m88_serving.proofs.Making.{IsFaultless, faultless_record}
-use Rattle.m88_serving.proofs.Marked.{else_is, loads_all, then_is}
+use Rattle.m88_serving.proofs.Marked.{loads_all}
 use Rattle.m88_serving.proofs.Verdicts.{accepted_record}
 
 -- a set with one number left out
@@ -83,21 +84,27 @@ left_by_store t set valid writes = λ i r. if sym valid i && not (sym writes i) 
 left_by_none : (t : Triple) (set : ℕ → Bool) → is_valid_triple t ≡ false → set ≡ left_by t set
 left_by_none t set none = λ i r. if sym none i && not (access_in t).write && number_of (access_in t).reg == r then false else set r
 
--- SSBR behind the service of a transaction
-ssbr_made : (t : Triple) (h : Held) (set : ℕ → Bool) → is_valid_triple t ≡ true → ((k : ℕ) → 32 ≤ k → set k ≡ false) → h.ssbr ≡ register_bits set
-    → (held_after (access_in t) h).ssbr ≡ register_bits (left_by t set)
-ssbr_made t h set valid beyond is = by_test (access_in t).write
-    (λ writes. sym (then_is (access_in t).write h.ssbr (without_bit (number_of (access_in t).reg) h.ssbr) writes)
-    ∙ is ∙ ap register_bits (left_by_store t set valid writes))
-    (λ reads. sym (else_is (access_in t).write h.ssbr (without_bit (number_of (access_in t).reg) h.ssbr) reads)
-    ∙ ap (without_bit (number_of (access_in t).reg)) is ∙ cleared (number_of (access_in t).reg) set (access_in t).reg.in_range beyond
-    ∙ ap register_bits (left_by_load t set valid reads))
+-- finishing a transaction leaves SSBR as it is
+finished_ssbr : (index : ℕ) (c : ControlRegisters) → (with_finished index c).ssbr ≡ c.ssbr
+finished_ssbr index c = by_test (index == 0) (λ z. rw z refl) (λ nz. rw nz (by_test (index == 1) (λ o. rw o refl) (λ no. rw no refl)))
 
-ssbr_step : (t : Triple) (h : Held) (set : ℕ → Bool) → ((k : ℕ) → 32 ≤ k → set k ≡ false) → h.ssbr ≡ register_bits set
-    → (held_behind t h).ssbr ≡ register_bits (left_by t set)
-ssbr_step t h set beyond is = by_test (is_valid_triple t)
-    (λ valid. ap (λ (x : Held). x.ssbr) (sym (served t (access_in t) h valid refl)) ∙ ssbr_made t h set valid beyond is)
-    (λ none. ap (λ (x : Held). x.ssbr) (sym (unserved t h none)) ∙ is ∙ ap register_bits (left_by_none t set none))
+-- SSBR behind the service of a transaction
+ssbr_made : (t : Triple) (c : ControlRegisters) (set : ℕ → Bool) → is_valid_triple t ≡ true → ((k : ℕ) → 32 ≤ k → set k ≡ false)
+    → c.ssbr ≡ register_bits set → (with_loaded (access_in t) c).ssbr ≡ register_bits (left_by t set)
+ssbr_made t c set valid beyond is = by_test (access_in t).write
+    (λ writes. rw writes is ∙ ap register_bits (left_by_store t set valid writes))
+    (λ reads. rw reads (ap (without_bit (number_of (access_in t).reg)) is)
+    ∙ cleared (number_of (access_in t).reg) set (access_in t).reg.in_range beyond ∙ ap register_bits (left_by_load t set valid reads))
+
+ssbr_step : (index : ℕ) (s : Serving) (set : ℕ → Bool) → ((k : ℕ) → 32 ≤ k → set k ≡ false) → s.control.ssbr ≡ register_bits set
+    → (after_triple index s).control.ssbr ≡ register_bits (left_by (triple_at index s.control) set)
+ssbr_step index s set beyond is =
+    let t : Triple = triple_at index s.control in
+    by_test (is_valid_triple t)
+    (λ valid. ap (λ (v : Bool). (if v then after_access_at index (access_in t) s else s).control.ssbr) valid
+    ∙ finished_ssbr index (with_loaded (access_in t) s.control) ∙ ssbr_made t s.control set valid beyond is)
+    (λ none. ap (λ (v : Bool). (if v then after_access_at index (access_in t) s else s).control.ssbr) none
+    ∙ is ∙ ap register_bits (left_by_none t set none))
 
 -- what a transaction loads is left out behind it
 inside : (t : Triple) (set : ℕ → Bool) (r : ℕ) → left_by t (with_load t set) r ≡ true → set r ≡ true
@@ -141,14 +148,18 @@ no_bits zero = refl
 no_bits (suc count) = rw (no_bits count) refl
 
 -- SSBR behind the three
-emptied : (t0 t1 t2 : Triple) (h : Held) → h.ssbr ≡ register_bits (waits_for (accesses_in (t0 ∷ t1 ∷ t2 ∷ [])))
-    → (held_behind t2 (held_behind t1 (held_behind t0 h))).ssbr ≡ 0
-emptied t0 t1 t2 h is =
-    let set : ℕ → Bool = waits_for (accesses_in (t0 ∷ t1 ∷ t2 ∷ [])) in
-    let beyond : (k : ℕ) → 32 ≤ k → set k ≡ false = λ k far. beyond_waits_not (accesses_in (t0 ∷ t1 ∷ t2 ∷ [])) k far in
+emptied : (s : Serving) → s.control.ssbr ≡ register_bits (waits_for (accesses_in (triples_by_age s.control))) → (after_service s).control.ssbr ≡ 0
+emptied s is =
+    let t0 : Triple = s.control.t0 in
+    let t1 : Triple = s.control.t1 in
+    let t2 : Triple = s.control.t2 in
+    let set : ℕ → Bool = waits_for (accesses_in (triples_by_age s.control)) in
+    let beyond : (k : ℕ) → 32 ≤ k → set k ≡ false = λ k far. beyond_waits_not (accesses_in (triples_by_age s.control)) k far in
     let once = left_beyond t0 set beyond in
-    ssbr_step t2 (held_behind t1 (held_behind t0 h)) (left_by t1 (left_by t0 set)) (left_beyond t1 (left_by t0 set) once)
-    (ssbr_step t1 (held_behind t0 h) (left_by t0 set) once (ssbr_step t0 h set beyond is))
+    ssbr_step 2 (after_triple 1 (after_triple 0 s)) (left_by t1 (left_by t0 set)) (left_beyond t1 (left_by t0 set) once)
+    (ssbr_step 1 (after_triple 0 s) (left_by t0 set) once (ssbr_step 0 s set beyond is)
+    ∙ ap (λ t. register_bits (left_by t (left_by t0 set))) (second_kept s))
+    ∙ ap (λ t. register_bits (left_by t (left_by t1 (left_by t0 set)))) (third_kept_again (after_triple 0 s) ∙ third_kept s)
     ∙ ap (λ w. register_bits (left_by t2 (left_by t1 (left_by t0 w)))) (loads_all t0 t1 t2)
     ∙ ap register_bits (fun_ext (none_left t0 t1 t2))
     ∙ no_bits 32
@@ -157,6 +168,4 @@ pub each_leaves_none_waiting : EachLeavesNoneWaiting
 each_leaves_none_waiting = λ input told accepted.
     let r : Record = told.fault in
     let fits : IsFaultless r = faultless_record r (accepted_record input told accepted) in
-    ap (λ (h : Held). h.ssbr) (all_held (serving_of_case told))
-    ∙ emptied (triple_of_record 0 r) (triple_of_record 1 r) (triple_of_record 2 r) (handled (serving_of_case told))
-    (eqb-true r.ssbr (awaited_set r) fits.loaded)
+    emptied (serving_of_case told) (eqb-true r.ssbr (awaited_set r) fits.loaded)

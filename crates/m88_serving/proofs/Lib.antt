@@ -5,7 +5,7 @@ pub mod Taken
 pub mod Puts
 pub mod Named
 pub mod Making
-pub mod Held
+pub mod Written
 pub mod Verdicts
 pub mod Dmts
 pub mod Emptied

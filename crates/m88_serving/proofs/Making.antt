@@ -1,16 +1,20 @@
 -- Each transaction of a record without a fault can be made.
-use Rattle.std.specs.Prelude.{ℕ, Bool, true, false, not, ◌≡◌, ◌%◌, ◌==◌, ◌&&◌, ◌||◌, Option, Some, None, if◌then◌else◌}
+use Rattle.std.specs.Int.{bit_at}
+use Rattle.std.specs.Prelude.{ℕ, List, [], ◌∷◌, Bool, true, false, not, ◌≡◌, ◌%◌, ◌==◌, ◌&&◌, ◌||◌, Option, Some, None, if◌then◌else◌}
 use Rattle.std.specs.Option.{option_or}
-use Rattle.std.proofs.Common.{refl, inl, inr}
+use Rattle.std.proofs.Common.{refl, inl, inr, ap, ◌∙◌}
 use Rattle.std.proofs.lemmas.Bool.{eqb-true}
 use Rattle.m88_base.specs.declared.triple.Triple.{Triple}
 use Rattle.m88_event.specs.declared.record.Record.{Record}
-use Rattle.m88_isa.proofs.Laws.{by_test}
+use Rattle.m88_base.proofs.Laws.{bit_of_set}
+use Rattle.m88_isa.proofs.Laws.{beyond_waits_not, by_test, r0_waits_not}
+use Rattle.m88_isa.specs.Bus.{waits_for}
 use Rattle.m88_isa.specs.Lanes.{IsEnable}
-use Rattle.m88_isa.specs.Triples.{dmt_of, is_valid_triple}
+use Rattle.m88_isa.specs.Triples.{accesses_in, dmt_of, is_valid_triple}
 use Rattle.m88_isa.specs.declared.planned.Access.{Access}
+use Rattle.m88_monitor.specs.Serving.{CanServeAll, CanServeTriple}
 use Rattle.m88_serving.specs.Faults.{access_of_dmt, at_first, fault_of_kind, first_behind, first_line, first_transaction, has_datum, has_odd_access, has_odd_address, is_dmt, is_fit, is_fit_byte, is_fit_half, is_fit_size, is_fit_store, is_fit_word, is_status, is_unempty, awaited_set, record_fault, triple_of_record}
-use Rattle.m88_serving.specs.Inside.Steps.{IsServable, AreServable}
+use Rattle.m88_serving.specs.Serving.{control_left}
 use Rattle.m88_serving.specs.declared.fault.ServeFault.{ServeFault}
 use Rattle.m88_serving.specs.declared.fault.ServeKind.{ServeKind}
 use Rattle.m88_serving.specs.declared.fault.ServeKind.TheVariants as kind
@@ -121,14 +125,15 @@ pub size_of_fit : (a : Access) → is_fit a ≡ true → is_fit_size a ≡ true
 unfolding is_fit
 size_of_fit a e = (both (is_fit_store a) (is_fit_size a) e).1
 
-can_make : (t : Triple) → has_odd_access t ≡ false → has_odd_address t ≡ false → IsServable t
+can_make : (t : Triple) → has_odd_access t ≡ false → has_odd_address t ≡ false → CanServeTriple (λ page. true) t
 unfolding has_odd_access has_odd_address
-can_make t access address = record {
-  word = λ valid. eqb-true (t.dma % 4) 0 (not_odd (is_valid_triple t) (t.dma % 4 == 0) address valid);
-  enable = λ valid. enable_of_size (access_of_dmt t.dmt) (size_of_fit (access_of_dmt t.dmt) (fit_of_dmt t.dmt (not_odd (is_valid_triple t) (is_dmt t.dmt) access valid)));
+can_make t access address = λ valid. record {
+  word = eqb-true (t.dma % 4) 0 (not_odd (is_valid_triple t) (t.dma % 4 == 0) address valid);
+  enable = enable_of_size (access_of_dmt t.dmt) (size_of_fit (access_of_dmt t.dmt) (fit_of_dmt t.dmt (not_odd (is_valid_triple t) (is_dmt t.dmt) access valid)));
+  prepared = λ writes. refl;
 }
 
-pub can_make_all : (r : Record) → record_fault r ≡ None → AreServable r.triples
+pub can_make_all : (r : Record) → record_fault r ≡ None → CanServeAll (λ page. true) (control_left r)
 can_make_all r none =
     let fits = faultless_record r none in
     record {
@@ -136,3 +141,11 @@ can_make_all r none =
       second = can_make (triple_of_record 1 r) fits.access.second fits.address.second;
       third = can_make (triple_of_record 2 r) fits.access.third fits.address.third;
     }
+
+-- bit 0 of its SSBR is clear, since r0 is never loaded
+pub ssbr_clear : (r : Record) → record_fault r ≡ None → bit_at r.ssbr 0 ≡ 0
+ssbr_clear r none =
+    let awaited : List Access = accesses_in (triple_of_record 0 r ∷ triple_of_record 1 r ∷ triple_of_record 2 r ∷ []) in
+    ap (λ (word : ℕ). bit_at word 0) (eqb-true r.ssbr (awaited_set r) (faultless_record r none).loaded)
+    ∙ bit_of_set (waits_for awaited) (beyond_waits_not awaited) 0
+    ∙ ap (λ (there : Bool). if there then 1 else 0) (r0_waits_not awaited)

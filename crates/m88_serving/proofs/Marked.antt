@@ -12,7 +12,7 @@ use Rattle.m88_isa.specs.Bus.{loads, waits_for}
 use Rattle.m88_isa.specs.Triples.{access_in, accesses_in, is_valid_triple}
 use Rattle.m88_isa.specs.declared.planned.Access.{Access}
 use Rattle.m88_scoreboard.specs.Registers.{none_waits}
-use Rattle.m88_serving.specs.Inside.Steps.{with_load}
+use Rattle.m88_serving.specs.Inside.Loads.{with_load}
 
 -- a member put in, as a register that is loaded
 member : (n r : ℕ) (b : Bool) → (if r == n && not (n == 0) then true else b) ≡ ((not (r == 0) && n == r) || b)

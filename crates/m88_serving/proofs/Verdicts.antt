@@ -1,10 +1,11 @@
 -- The verdict on an input, by what was read of it.
-use Rattle.std.specs.Prelude.{ℕ, List, [], ◌++◌, ◌≡◌, ◌<◌, true, false, Option, Some, None, IfOk, Result, Ok, Err, codes, length}
+use Rattle.std.specs.Prelude.{ℕ, List, [], ◌++◌, ◌≡◌, ◌<◌, true, Option, Some, None, IfOk, Result, Ok, Err, codes, length}
 use Rattle.std.specs.Option.{option_or}
 use Rattle.std.proofs.Common.{refl, sym, ap, ◌∙◌, arith, subst, length-append}
 use Rattle.m88_base.proofs.Laws.{AreVerdicts}
 use Rattle.m88_base.specs.Lines.{line_end, lines_of}
 use Rattle.m88_base.specs.Refused.{placed_reason}
+use Rattle.m88_base.specs.Reply.{IsRefusalOf}
 use Rattle.m88_base.specs.declared.failing.NoMemory.{NoMemory}
 use Rattle.m88_base.specs.declared.reply.Reply.{Reply}
 use Rattle.m88_serving.specs.Cases.{Case, case_in}
@@ -17,16 +18,16 @@ use Rattle.m88_serving.specs.declared.fault.ServeFault.{ServeFault}
 use Rattle.m88_serving.specs.declared.fault.ServeKind.TheVariants as kind
 
 -- the four ways of it
-misformed : (input : List ℕ) (number : ℕ) → case_in (lines_of input) ≡ Err number → serve_verdict input ≡ Err (record { line = number; kind = kind.Form })
+pub misformed : (input : List ℕ) (number : ℕ) → case_in (lines_of input) ≡ Err number → serve_verdict input ≡ Err (record { line = number; kind = kind.Form })
 unfolding serve_verdict
 misformed input number read = ap case_verdict read
 
-faulty : (input : List ℕ) (c : Case) (fault : ServeFault) → case_in (lines_of input) ≡ Ok c → record_fault c.fault ≡ Some fault → serve_verdict input ≡ Err fault
+pub faulty : (input : List ℕ) (c : Case) (fault : ServeFault) → case_in (lines_of input) ≡ Ok c → record_fault c.fault ≡ Some fault → serve_verdict input ≡ Err fault
 unfolding serve_verdict case_fault
 faulty input c fault read found =
     ap case_verdict read ∙ ap (λ o. faultless c (option_or o (fault_of_kind kind.Twice (repeated_from 5 [] c.words)))) found
 
-repeated : (input : List ℕ) (c : Case) (number : ℕ) → case_in (lines_of input) ≡ Ok c → record_fault c.fault ≡ None
+pub repeated : (input : List ℕ) (c : Case) (number : ℕ) → case_in (lines_of input) ≡ Ok c → record_fault c.fault ≡ None
     → repeated_from 5 [] c.words ≡ Some number → serve_verdict input ≡ Err (record { line = number; kind = kind.Twice })
 unfolding serve_verdict case_fault
 repeated input c number read none again =
@@ -59,36 +60,19 @@ accepted_record input told e = told_of_case (case_in (lines_of input)) told e
 
 -- the replies, where there was memory for one
 pub refused_reply : (input : List ℕ) (fault : ServeFault) (result : Result Reply NoMemory) → serve_verdict input ≡ Err fault
-    → IfOk result (λ reply. reply.accepted ≡ false) → IfOk result (λ reply. reply.text.items ≡ turned_down_line fault) → IfOk result (RepliesServed input)
-refused_reply input fault (Ok reply) refused denied is = rw denied (record { fault = fault; refused = refused; is_text = is })
-refused_reply input fault (Err e) refused denied is = tt
+    → IfOk result (IsRefusalOf (record { line = fault.line; column = 1; reason = serve_reason fault.kind })) → IfOk result (RepliesServed input)
+refused_reply input fault (Ok reply) refused is = rw is.refused (record { fault = fault; refused = refused; is_text = is.line })
+refused_reply input fault (Err e) refused is = tt
 
-pub misformed_reply : (input : List ℕ) (number : ℕ) (result : Result Reply NoMemory) → case_in (lines_of input) ≡ Err number
-    → IfOk result (λ reply. reply.accepted ≡ false)
-    → IfOk result (λ reply. reply.text.items ≡ turned_down_line (record { line = number; kind = kind.Form })) → IfOk result (RepliesServed input)
-misformed_reply input number result read denied is = refused_reply input (record { line = number; kind = kind.Form }) result (misformed input number read) denied is
-
-pub faulty_reply : (input : List ℕ) (c : Case) (fault : ServeFault) (result : Result Reply NoMemory) → case_in (lines_of input) ≡ Ok c
-    → record_fault c.fault ≡ Some fault → IfOk result (λ reply. reply.accepted ≡ false)
-    → IfOk result (λ reply. reply.text.items ≡ turned_down_line fault) → IfOk result (RepliesServed input)
-faulty_reply input c fault result read found denied is = refused_reply input fault result (faulty input c fault read found) denied is
-
-pub repeated_reply : (input : List ℕ) (c : Case) (words : List (ℕ × ℕ)) (number : ℕ) (result : Result Reply NoMemory) → case_in (lines_of input) ≡ Ok c
-    → record_fault c.fault ≡ None → words ≡ c.words → repeated_from 5 [] words ≡ Some number → IfOk result (λ reply. reply.accepted ≡ false)
-    → IfOk result (λ reply. reply.text.items ≡ turned_down_line (record { line = number; kind = kind.Twice })) → IfOk result (RepliesServed input)
-repeated_reply input c words number result read none same again denied is =
-    refused_reply input (record { line = number; kind = kind.Twice }) result
-    (repeated input c number read none (sym (ap (repeated_from 5 []) same) ∙ again)) denied is
-
-pub accepted_reply : (input : List ℕ) (c : Case) (words : List (ℕ × ℕ)) (bus : ℕ → ℕ) (result : Result Reply NoMemory) → case_in (lines_of input) ≡ Ok c
-    → record_fault c.fault ≡ None → words ≡ c.words → (repeated_from 5 [] words ≡ None) × (bus ≡ named_bus words) → IfOk result (λ reply. reply.accepted ≡ true)
+pub accepted_reply : (input : List ℕ) (c : Case) (bus : ℕ → ℕ) (result : Result Reply NoMemory) → serve_verdict input ≡ Ok c → bus ≡ named_bus c.words
+    → IfOk result (λ reply. reply.accepted ≡ true)
     → IfOk result (λ reply. reply.text.items ≡ served_text (serving_with c.fault bus)) → IfOk result (RepliesServed input)
-accepted_reply input c words bus (Ok reply) read none same named granted is = rw granted (record {
+accepted_reply input c bus (Ok reply) accepted named granted is = rw granted (record {
   told = c;
-  accepted = accepted input c read none (sym (ap (repeated_from 5 []) same) ∙ named.0);
-  is_text = is ∙ ap (λ b. served_text (serving_with c.fault b)) (named.1 ∙ ap named_bus same);
+  accepted = accepted;
+  is_text = is ∙ ap (λ b. served_text (serving_with c.fault b)) named;
 })
-accepted_reply input c words bus (Err e) read none same named granted is = tt
+accepted_reply input c bus (Err e) accepted named granted is = tt
 
 -- an input isn't accepted and refused
 pub not_both : (input : List ℕ) (told : Case) (fault : ServeFault) → serve_verdict input ≡ Ok told → serve_verdict input ≡ Err fault → ⊥

@@ -3,6 +3,7 @@ pub mod Lines
 pub mod Cases
 pub mod Faults
 pub mod Verdict
+pub mod Told
 pub mod Serving
 pub mod Served
 pub mod Laws

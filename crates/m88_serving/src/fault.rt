@@ -34,19 +34,19 @@ pub enum ServeKind {
 
 impl ServeKind {
     /// The reason in the line that refuses an input.
-    pub(crate) fn reason(&self) -> &'static [u8]
+    pub fn reason(&self) -> &'static str
         ensures { result.now ≡ serve_reason self.now }
     {
         match self {
-            ServeKind::Form => b"form",
-            ServeKind::Epsr => b"epsr",
-            ServeKind::Access => b"access",
-            ServeKind::Address => b"address",
-            ServeKind::Datum => b"datum",
-            ServeKind::Empty => b"empty",
-            ServeKind::Order => b"order",
-            ServeKind::Ssbr => b"ssbr",
-            ServeKind::Twice => b"twice",
+            ServeKind::Form => "form",
+            ServeKind::Epsr => "epsr",
+            ServeKind::Access => "access",
+            ServeKind::Address => "address",
+            ServeKind::Datum => "datum",
+            ServeKind::Empty => "empty",
+            ServeKind::Order => "order",
+            ServeKind::Ssbr => "ssbr",
+            ServeKind::Twice => "twice",
         }
     }
 }

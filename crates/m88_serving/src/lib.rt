@@ -10,13 +10,20 @@ mod lines;
 mod loads;
 mod naming;
 mod reading;
+mod telling;
 
 // What is written.
+mod entering;
 mod reply;
-mod service;
+mod serving;
 mod text;
 
 // The top call.
 mod program;
 
+pub use entering::control_left;
+pub use fault::{ServeFault, ServeKind};
+pub use lines::last_word;
 pub use program::m88serve;
+pub use telling::{ToldCase, Untold, told_case};
+pub use text::push_slots;

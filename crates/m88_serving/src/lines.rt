@@ -58,9 +58,10 @@ pub(crate) fn named_word_in(line: &[u8]) -> Option<(u32, u32)>
     }
 }
 
-/// The word behind a text that begins another, with nothing behind it.
+/// The word behind a text that begins another, with nothing behind it: eight hexadecimal digits, the letters in upper
+/// case.
 #[tactic(auto, unfolding(crate::specs::Lines::last_word))]
-fn last_word(front: &[u8], text: &[u8]) -> Option<u32>
+pub fn last_word(front: &[u8], text: &[u8]) -> Option<u32>
     ensures { result ≡ last_word front.now text.now }
 {
     let (word, behind) = word_after(front, text)?;

@@ -2,7 +2,7 @@
 ghost use Rattle.std.specs.Prelude.{◌≡◌};
 ghost use Rattle.m88_scoreboard.specs.Registers.{waiting_of};
 ghost use Rattle.m88_serving.specs.Faults.{awaited_set};
-ghost use Rattle.m88_serving.specs.Inside.Steps.{with_load};
+ghost use Rattle.m88_serving.specs.Inside.Loads.{with_load};
 
 use m88_base::Triple;
 use m88_event::Record;

@@ -164,12 +164,7 @@ fn is_member(set: u32, r: u32) -> bool
 }
 
 /// Appends the line of SSBR, and that of the two slots at which execution goes on.
-pub(crate) fn push_slots(
-    text: &mut Vec<u8>,
-    ssbr: u32,
-    snip: u32,
-    sfip: u32,
-) -> Result<(), AllocError>
+pub fn push_slots(text: &mut Vec<u8>, ssbr: u32, snip: u32, sfip: u32) -> Result<(), AllocError>
     ensures { OnOk result (text.new.items ≡ text.old.items ++ slots_text ssbr snip sfip) }
 {
     push_named(text, b"ssbr", ssbr)?;

@@ -2,7 +2,7 @@
 use Rattle.std.proofs.Common.{◌≡◌, ◌∙◌, ◌++◌, ℕ, List, ap, append_assoc, arith, sym}
 use Rattle.m88_base.specs.RegisterSet.{registers_in}
 use Rattle.m88_serving.specs.Served.{awaited_text, registers_below}
-use Rattle.m88_serving.proofs.Held.{registers_next}
+use Rattle.m88_serving.proofs.Texts.{registers_next}
 use Rattle.m88_serving.proofs.text.push_registers.Goals as goal
 
 pub loop-r-preserved : goal.loop-r-preserved
