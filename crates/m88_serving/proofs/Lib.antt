@@ -12,4 +12,3 @@ pub mod Emptied
 pub mod Readback
 pub mod Touched
 pub mod Faulted
-pub mod Laws

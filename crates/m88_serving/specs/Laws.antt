@@ -1,6 +1,5 @@
 -- What holds of every input and of every word.
-use Rattle.std.specs.Prelude.{◌≡◌, ◌↔◌, ◌⊎◌, ◌<◌, ◌%◌, ◌^◌, ◌++◌, ℕ, Bool, All, List, [], ◌∷◌, None, Ok, Err, flat_map, true}
-use Rattle.m88_base.specs.OneVerdict.{HasOneVerdict}
+use Rattle.std.specs.Prelude.{◌≡◌, ◌↔◌, ◌⊎◌, ◌<◌, ◌%◌, ◌^◌, ◌++◌, ℕ, Bool, All, List, [], ◌∷◌, None, Ok, flat_map, true}
 use Rattle.m88_base.specs.declared.reg.Reg.{Reg}
 use Rattle.m88_base.specs.declared.triple.Triple.{Triple}
 use Rattle.m88_event.specs.Run.{moment_after}
@@ -19,14 +18,6 @@ use Rattle.m88_serving.specs.Faults.{is_dmt, repeated_from}
 use Rattle.m88_serving.specs.Served.{IsServed, served_text}
 use Rattle.m88_serving.specs.Serving.{named_bus, serving_of_case, serving_with}
 use Rattle.m88_serving.specs.Verdict.{serve_verdict}
-use Rattle.m88_serving.specs.declared.fault.ServeFault.{ServeFault}
-
--- an input is accepted or has a first fault, never both, and one at most
-abbrev pub EachInputHasOneVerdict : Type 0
-EachInputHasOneVerdict =
-    (input : List ℕ)
-    → HasOneVerdict (λ (told : Case). serve_verdict input ≡ Ok told)
-    (λ (fault : ServeFault). serve_verdict input ≡ Err fault)
 
 -- one of some touches has this DMT
 abbrev pub IsDmtAmong : ℕ → List Touch → Type 0

@@ -1,7 +1,7 @@
 //! The top call.
 ghost use Rattle.std.specs.Prelude.{◌≡◌, ◌<◌, length};
 ghost use Rattle.m88_base.specs.Filter.{AnswersFor, AnswersUnfailed, IsInputLeft, ReadsFor, UsageFor, WritesFor};
-ghost use Rattle.m88_serving.specs.Laws.{EachDmtIsOfAnAccess, EachFaultIsServed, EachInputHasOneVerdict, EachLeavesNoneWaiting};
+ghost use Rattle.m88_serving.specs.Laws.{EachDmtIsOfAnAccess, EachFaultIsServed, EachLeavesNoneWaiting};
 ghost use Rattle.m88_serving.specs.Served.{IsServed, IsTurnedDown};
 ghost use Rattle.m88_serving.specs.Verdict.{IsTakenCase};
 
@@ -38,9 +38,8 @@ pub fn m88serve<S: Source, K: Sink>(
         → AnswersUnfailed S.faults K.faults source.old source.new sink.old sink.new
         (IsInputLeft (S.left source.old)) IsTakenCase result }
 
-    // Each input is accepted or has one first fault, never both. A word is taken as a DMT exactly where an access of
-    // some instruction has it. Behind the service of what is accepted no register waits.
-    ensures verdicts { EachInputHasOneVerdict }
+    // A word is taken as a DMT exactly where an access of some instruction has it. Behind the service of what is accepted
+    // no register waits.
     ensures accesses { EachDmtIsOfAnAccess }
     ensures waits { EachLeavesNoneWaiting }
 

@@ -4,7 +4,6 @@ use Rattle.m88_base.proofs.Laws.{answers_input, answers_nothing, answers_reply, 
 use Rattle.m88_serving.specs.Served.{IsServed, IsTurnedDown}
 use Rattle.m88_serving.specs.Verdict.{IsTakenCase}
 use Rattle.m88_serving.specs.Inside.Replies.{RepliesServed}
-use Rattle.m88_serving.proofs.Laws.{each_input_has_one_verdict}
 use Rattle.m88_serving.proofs.Dmts.{each_dmt_is_of_an_access}
 use Rattle.m88_serving.proofs.Emptied.{each_leaves_none_waiting}
 use Rattle.m88_serving.proofs.Faulted.{each_fault_is_served}
@@ -38,15 +37,6 @@ returns-in-Ok-clause-complete g c = λ none bytes had unbroken unfailing.
     (λ served. record { told = served.told; accepted = served.accepted })
     (λ down accepted. not_both bytes accepted.told down.fault accepted.accepted down.refused)
     (λ e. unfailing (c.write_to.ensures.sink_fault e))
-
-pub returns-then-not-is_empty-clause-verdicts : goal.returns-then-not-is_empty-clause-verdicts
-returns-then-not-is_empty-clause-verdicts g c = each_input_has_one_verdict
-
-pub returns-in-Err-clause-verdicts : goal.returns-in-Err-clause-verdicts
-returns-in-Err-clause-verdicts g c = each_input_has_one_verdict
-
-pub returns-in-Ok-clause-verdicts : goal.returns-in-Ok-clause-verdicts
-returns-in-Ok-clause-verdicts g c = each_input_has_one_verdict
 
 pub returns-then-not-is_empty-clause-accesses : goal.returns-then-not-is_empty-clause-accesses
 returns-then-not-is_empty-clause-accesses g c = each_dmt_is_of_an_access
