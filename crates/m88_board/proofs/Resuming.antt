@@ -13,7 +13,7 @@ use Rattle.m88_event.proofs.Laws.{drained_bus, ended_is}
 use Rattle.m88_event.specs.Local.{Local, local_at}
 use Rattle.m88_event.specs.Past.{HasPast}
 use Rattle.m88_event.specs.Shadow.{fip_of, nip_of, retired_pointer, status_of}
-use Rattle.m88_event.specs.Timeline.{Moment, end_of_turn, nip_at, xip_at}
+use Rattle.m88_event.specs.Timeline.{Moment, end_of_turn, nip_at, xip_at, xip_along}
 use Rattle.m88_event.specs.declared.happened.End.{End}
 use Rattle.m88_isa.proofs.Laws.{program_of_image, state_straight, state_words, twice_at_most}
 use Rattle.m88_isa.specs.Address.{after_bytes}
@@ -60,7 +60,7 @@ pub record AreResumed (c : Context) (file : Registers) (control : ControlRegiste
 
 -- the address of the instruction retired last is that of a word
 xip_word : (p : Program) (n : ℕ) → IsWordSlot (xip_at p n)
-unfolding xip_at
+unfolding xip_along
 xip_word p zero = refl
 xip_word p (suc n) = (state_words p n).here
 
@@ -167,7 +167,7 @@ stands_at p named m c file control stands are = record {
 
 -- XIP of a history is an instruction that was retired, or nothing
 xip_back : (p : Program) (n : ℕ) → xip_at p n ≡ (if (xip_at p n).v then retired_pointer (xip_at p n).addr else no_slot)
-unfolding xip_at
+unfolding xip_along
 xip_back p zero = refl
 xip_back p (suc n) = refl
 
@@ -195,7 +195,7 @@ valid_of p true xip pc next h = absurd cc
 valid_of p false xip pc next h = refl
 
 valid_behind : (p : Program) (n before : ℕ) → n ≡ before + 1 → (xip_at p n).v ≡ true
-unfolding xip_at
+unfolding xip_along
 valid_behind p n before last = subst (λ (k : ℕ). (xip_at p k).v ≡ true) (sym last) (rw add-one refl)
 
 behind_at : (p : Program) (limit : ℕ) (m : Moment) → HasPast p limit m → (slots_at p m).nip.v ≡ false →

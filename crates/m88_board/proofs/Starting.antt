@@ -11,7 +11,7 @@ use Rattle.m88_event.proofs.Laws.{opens_with}
 use Rattle.m88_event.specs.Local.{Local, local_at}
 use Rattle.m88_isa.specs.declared.planned.Access.{Access}
 use Rattle.m88_event.specs.Shadow.{status_of}
-use Rattle.m88_event.specs.Timeline.{opening_moment, xip_at}
+use Rattle.m88_event.specs.Timeline.{opening_moment, xip_along}
 use Rattle.m88_isa.specs.Address.{after_bytes, word_address}
 use Rattle.m88_isa.specs.Bus.{after_accesses, bus_after_all, in_words}
 use Rattle.m88_isa.specs.History.{completed_state, transactions}
@@ -136,7 +136,7 @@ moment_seen : (p : Program) (named : ℕ → Bool) →
     local_at p named opening_moment
     ≡ seen_at p.mxm (replicate 32 0) (in_words (λ a. unwrap_or (p.byte a) 0)) (λ page. named page && not false)
     (word_address p.start)
-unfolding local_at completed_state state opening transactions xip_at bus_after_all
+unfolding local_at completed_state state opening transactions xip_along bus_after_all
 moment_seen p named = refl
 
 -- it stands at the first moment

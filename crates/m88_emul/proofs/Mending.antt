@@ -1,14 +1,18 @@
 -- The words after transactions and what software stored, in order.
 use Rattle.std.specs.Prelude.{ℕ, zero, suc, List, [], ◌∷◌, ◌++◌, ◌≡◌, ◌<◌, ◌≤◌, drop, length, map, take}
 use Rattle.std.proofs.Common.{arith, refl, sym, ap, ◌∙◌}
+use Rattle.std.proofs.lemmas.List.{append-nil}
 use Rattle.m88_isa.specs.Bus.{bus_after, bus_after_all}
+use Rattle.m88_isa.specs.History.{turn_accesses}
 use Rattle.m88_isa.specs.Memory.{Touch, access_of}
 use Rattle.m88_isa.specs.declared.planned.Access.{Access}
-use Rattle.m88_emul.specs.Extended.{Work, bus_after_work, mends, transacted, transacts}
+use Rattle.m88_isa.specs.Machine.{Program}
+use Rattle.m88_emul.specs.Extended.{Deed, aided, alone, deed_accesses, deed_at, extended_state, transactions_before}
 use Rattle.m88_emul.specs.Inside.Settled.{HasNoMending, IsMended}
+use Rattle.m88_emul.specs.Inside.Works.{Work, bus_after_work, mends, transacted, transacts, work_before, work_of}
 
 -- transactions that join
-pub made_more : (ws : List Work) (xs : List Access) → transacted (ws ++ map transacts xs) ≡ transacted ws ++ xs
+made_more : (ws : List Work) (xs : List Access) → transacted (ws ++ map transacts xs) ≡ transacted ws ++ xs
 unfolding transacted
 made_more [] [] = refl
 made_more [] (x ∷ xs) = ap (λ ys. x ∷ ys) (made_more [] xs)
@@ -30,7 +34,7 @@ bus_more (suc done) (transacts a ∷ ws) xs bus h = bus_more done ws xs (bus_aft
 bus_more done (mends ys ∷ ws) xs bus h = bus_more done ws xs (bus_after_all ys bus) h
 
 -- what software stores at the end
-pub made_mended : (ws : List Work) (xs : List Access) → transacted (ws ++ (mends xs ∷ [])) ≡ transacted ws
+made_mended : (ws : List Work) (xs : List Access) → transacted (ws ++ (mends xs ∷ [])) ≡ transacted ws
 unfolding transacted
 made_mended [] xs = refl
 made_mended (transacts a ∷ ws) xs = ap (λ ys. a ∷ ys) (made_mended ws xs)
@@ -43,6 +47,18 @@ bus_mended done [] xs bus = refl
 bus_mended zero (transacts a ∷ ws) xs bus = bus_mended zero ws xs bus
 bus_mended (suc done) (transacts a ∷ ws) xs bus = bus_mended done ws xs (bus_after a bus)
 bus_mended done (mends ys ∷ ws) xs bus = bus_mended done ws xs (bus_after_all ys bus)
+
+-- the transactions among the work of a history are its own
+made_by : (ws : List Work) (d : Deed) → transacted (ws ++ work_of d) ≡ transacted ws ++ deed_accesses d
+made_by ws (alone turn) = made_more ws (turn_accesses turn)
+made_by ws (aided vector aid) = made_mended ws (map access_of aid.stores) ∙ sym (append-nil (transacted ws))
+
+pub made_is : (p : Program) (n : ℕ) → transacted (work_before p n) ≡ transactions_before p n
+unfolding transacted work_before transactions_before
+made_is p zero = refl
+made_is p (suc n) =
+    made_by (work_before p n) (deed_at p (extended_state p n))
+    ∙ ap (λ xs. xs ++ deed_accesses (deed_at p (extended_state p n))) (made_is p n)
 
 -- where software stored nothing
 untouched : (ws : List Work) (bus : ℕ → ℕ) → HasNoMending ws → bus_after_work 0 ws bus ≡ bus

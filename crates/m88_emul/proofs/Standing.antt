@@ -1,43 +1,34 @@
 -- What lies behind a moment stays so.
-use Rattle.std.specs.Prelude.{ℕ, Bool, false, List, [], ◌∷◌, ◌≡◌, ◌≤◌, ◌+◌, ◌-◌, drop, length, map}
+use Rattle.std.specs.Prelude.{ℕ, Bool, false, ◌≡◌, ◌≤◌, ◌+◌, length, map}
 use Rattle.std.proofs.Common.{arith, length-append, sym, ap, subst, ◌∙◌, refl}
 use Rattle.std.proofs.lemmas.List.{length-drop}
-use Rattle.m88_isa.specs.Held.{is_pending}
 use Rattle.m88_isa.specs.History.{turn_accesses}
 use Rattle.m88_isa.specs.Machine.{Program, Turn, changes, outputs}
 use Rattle.m88_isa.specs.Memory.{access_of}
-use Rattle.m88_isa.specs.declared.planned.Access.{Access}
-use Rattle.m88_event.proofs.Laws.{IsLastChoice, precise_choice}
-use Rattle.m88_event.specs.Choice.{Choice, evicts, faults, finishes, holds, idles, issues, passes, replies, serves}
-use Rattle.m88_event.specs.Local.{choice_by, record_by, situation_of}
-use Rattle.m88_event.specs.Timeline.{Moment, opening_moment}
+use Rattle.m88_event.proofs.Laws.{FitsAlong, IsLastChoice, fits_along, nothing_left, precise_choice}
+use Rattle.m88_event.specs.Choice.{Choice, choice_of, evicts, faults, finishes, holds, idles, issues, passes, replies, serves}
+use Rattle.m88_event.specs.Situation.{Situation, record_of}
+use Rattle.m88_event.specs.Timeline.{Moment, opening_moment, pending_along, situation_along}
 use Rattle.m88_event.specs.declared.letter.Letter.{Letter}
 use Rattle.m88_event.specs.declared.record.Record.{Record}
-use Rattle.m88_emul.proofs.Following.{Fits, aided_work, deed_goes, fits, more_work}
-use Rattle.m88_emul.proofs.Mending.{made_mended, made_more, mended_again, mended_more, mended_on}
-use Rattle.m88_emul.specs.Extended.{Deed, IsAlone, aided, alone, deed_at, extended_state, transacted, transactions_before, work_before}
+use Rattle.m88_emul.proofs.Following.{aided_made, aided_work, deed_goes, more_made, more_work}
+use Rattle.m88_emul.proofs.Mending.{made_is, mended_again, mended_more, mended_on}
+use Rattle.m88_emul.specs.Extended.{Deed, IsAlone, aided, alone, deed_at, extended_history, extended_state, transactions_before}
 use Rattle.m88_emul.specs.Inside.Settled.{IsMended, LiesBehind}
-use Rattle.m88_emul.specs.Timeline.{ExtendedMoment, after_chosen, after_event, after_stop, extended_pending, seen_at}
+use Rattle.m88_emul.specs.Inside.Works.{work_before}
+use Rattle.m88_emul.specs.Timeline.{ExtendedMoment, after_chosen, after_event, after_stop}
 
 -- one more step that the machine makes alone
 stands_alone : (p : Program) (m : Moment) (t : Turn) (bubble : Bool) → LiesBehind p m → deed_at p (extended_state p m.retired) ≡ alone t → m.ended ≡ false →
     LiesBehind p (record m { retired = m.retired + 1; bubble = bubble })
 stands_alone p m t bubble stands d lives =
-    let grown = ap transacted (more_work p m.retired t d) ∙ made_more (work_before p m.retired) (turn_accesses t) in
-    let longer = ap length grown ∙ length-append (transactions_before p m.retired) (turn_accesses t) in
+    let longer = ap length (more_made p m.retired t d) ∙ length-append (transactions_before p m.retired) (turn_accesses t) in
     let within = stands.within in
     record {
       within = omega (arith, longer, within);
       mended = subst (IsMended m.done) (sym (more_work p m.retired t d)) (mended_more m.done (work_before p m.retired) (turn_accesses t) stands.mended);
       ended = λ yes. absurd cc;
     }
-
-none_left : (done : ℕ) (xs : List Access) → is_pending (drop done xs) ≡ false → length xs ≤ done
-none_left done xs none = by_left (drop done xs) (length-drop done xs) none
-  where
-    by_left : (rest : List Access) → length rest ≡ length xs - done → is_pending rest ≡ false → length xs ≤ done
-    by_left [] e none = omega (arith, e)
-    by_left (x ∷ rest) e none = absurd cc
 
 stands_stop : (p : Program) (x : ExtendedMoment) (d : Deed) → LiesBehind p x.moment → deed_at p (extended_state p x.moment.retired) ≡ d →
     x.moment.ended ≡ false → length (transactions_before p x.moment.retired) ≤ x.moment.done →
@@ -50,16 +41,17 @@ stands_stop p x (alone t) stands d lives all = record {
 stands_stop p x (aided vector aid) stands d lives all =
     let m : Moment = x.moment in
     let works = aided_work p m.retired vector aid d in
-    let same = ap transacted works ∙ made_mended (work_before p m.retired) (map access_of aid.stores) in
-    let longer = ap length same in
+    let longer = ap length (aided_made p m.retired vector aid d) in
     let within = stands.within in
     record {
       within = omega (arith, longer, within);
-      mended = subst (IsMended m.done) (sym works) (mended_again m.done (work_before p m.retired) (map access_of aid.stores) all stands.mended);
+      mended = subst (IsMended m.done) (sym works) (mended_again m.done (work_before p m.retired) (map access_of aid.stores)
+          (subst (λ xs. length xs ≤ m.done) (sym (made_is p m.retired)) all) stands.mended);
       ended = λ yes. absurd cc;
     }
 
-stands_choice : (p : Program) (x : ExtendedMoment) (choice : Choice) (fault : Record) → LiesBehind p x.moment → Fits p x.moment choice →
+stands_choice : (p : Program) (x : ExtendedMoment) (choice : Choice) (fault : Record) → LiesBehind p x.moment →
+    FitsAlong (extended_history p) x.moment choice →
     (IsLastChoice choice → length (transactions_before p x.moment.retired) ≤ x.moment.done) →
     LiesBehind p (after_chosen p choice fault x).moment
 stands_choice p x idles fault stands fit last = stands
@@ -83,19 +75,20 @@ stands_choice p x faults fault stands fit last =
     let within = stands.within in
     record {
       within = omega (arith, rest, within);
-      mended = mended_on m.done (m.done + length (extended_pending p m)) (work_before p m.retired) (omega arith) stands.mended;
+      mended = mended_on m.done (m.done + length (pending_along (extended_history p) m)) (work_before p m.retired) (omega arith) stands.mended;
       ended = stands.ended;
     }
 
 pub stands_on : (p : Program) (named : ℕ → Bool) (limit : ℕ) (letter : Letter) (x : ExtendedMoment) → LiesBehind p x.moment →
     LiesBehind p (after_event p named limit letter x).moment
-unfolding after_event situation_of seen_at
+unfolding after_event
 stands_on p named limit letter x stands =
-    let kept = stands_choice p x (choice_by p limit letter (seen_at p named x.moment)) (record_by p limit (seen_at p named x.moment)) stands
-    (fits p named limit letter x.moment)
-    (λ last. none_left x.moment.done (transactions_before p x.moment.retired) (precise_choice p letter (situation_of limit (seen_at p named x.moment)) last)) in
+    let s : Situation = situation_along (extended_history p) named limit x.moment in
+    let kept = stands_choice p x (choice_of p letter s) (record_of p s) stands (fits_along (extended_history p) named limit letter x.moment)
+    (λ last. let all = nothing_left x.moment.done (transactions_before p x.moment.retired) stands.within (precise_choice p letter s last) in
+    omega (arith, all)) in
     record { within = kept.within; mended = kept.mended; ended = kept.ended }
 
 pub stands_first : (p : Program) → LiesBehind p opening_moment
-unfolding work_before transacted IsMended
+unfolding work_before IsMended
 stands_first p = record { within = omega arith; mended = tt; ended = λ yes. absurd cc }

@@ -1,31 +1,30 @@
 -- A machine with software behind it is the board alone where software has nothing to do.
-use Rattle.std.specs.Prelude.{ℕ, zero, suc, Bool, true, false, List, [], ◌∷◌, ◌++◌, Option, Some, None, ◌≡◌, ◌≤◌, ◌+◌, ◌==◌, ◌&&◌, ◌||◌, ◌-◌, drop, length, map, nat_lt, take, unwrap_or, if◌then◌else◌}
+use Rattle.std.specs.Prelude.{ℕ, zero, suc, Bool, true, false, List, [], ◌∷◌, ◌++◌, Option, Some, None, ◌≡◌, ◌≤◌, ◌+◌, ◌==◌, ◌&&◌, ◌||◌, ◌-◌, drop, length, nat_lt, unwrap_or, if◌then◌else◌}
 use Rattle.std.proofs.Common.{arith, refl, sym, ap, ap₂, subst, ◌∙◌}
 use Rattle.std.proofs.lemmas.Bool.{eqb-false, eqb-true, ltb-false, ltb-true}
 use Rattle.m88_isa.proofs.Laws.{by_test, second_of}
-use Rattle.m88_isa.specs.Bus.{bus_after, bus_after_all, changed_words, in_words}
+use Rattle.m88_isa.specs.Bus.{changed_words, in_words}
 use Rattle.m88_isa.specs.Held.{instruction_at, is_stop}
-use Rattle.m88_isa.specs.History.{completed_state, pending_at, transaction_count, transactions, turn_accesses}
+use Rattle.m88_isa.specs.History.{pending_at, transaction_count, transactions}
 use Rattle.m88_isa.specs.Machine.{Program, State, Turn, by_vector, changes, exits, opening, outputs, state, state_after, stepped, stops, turn_at}
 use Rattle.m88_isa.specs.declared.instr.Instr.{Instr}
 use Rattle.m88_isa.specs.declared.planned.Access.{Access}
-use Rattle.m88_event.proofs.Laws.{Fits, fits, past_after, same_situation}
+use Rattle.m88_event.proofs.Laws.{Fits, fits, past_after}
 use Rattle.m88_event.specs.Choice.{Choice, choice_of, finishes, issues, serves}
 use Rattle.m88_event.specs.Letters.{letter_at}
-use Rattle.m88_event.specs.Local.{local_at, situation_of}
 use Rattle.m88_event.specs.Past.{HasPast}
 use Rattle.m88_event.specs.Run.{IsOutcome, moment_after, moment_along, outcome_at}
 use Rattle.m88_event.specs.Shadow.{retired_pointer}
 use Rattle.m88_event.specs.Situation.{Situation, record_of}
-use Rattle.m88_event.specs.Timeline.{Moment, after_choice, after_letter, absent_at, end_of_turn, is_over, situation_at, with_event, xip_at}
+use Rattle.m88_event.specs.Timeline.{Moment, after_choice, after_letter, end_of_turn, is_over, is_over_along, situation_at, situation_along, with_event, xip_at, xip_along}
 use Rattle.m88_event.specs.declared.happened.End.TheVariants.{Limit}
 use Rattle.m88_event.specs.declared.letter.Letter.{Letter}
 use Rattle.m88_event.specs.declared.record.Record.{Record}
 use Rattle.m88_emul.proofs.Standing.{stands_first, stands_on}
 use Rattle.m88_emul.specs.Aid.{Aid}
-use Rattle.m88_emul.specs.Extended.{Deed, IsAlone, Work, after_deed, aid_at, aided, alone, bus_after_work, deed_at, deed_of, extended_state, transacted, transactions_before, transacts, where_aided, work_before, work_of}
+use Rattle.m88_emul.specs.Extended.{Deed, IsAlone, after_deed, aid_at, aided, alone, deed_accesses, deed_at, deed_of, extended_history, extended_state, transactions_before, where_aided}
 use Rattle.m88_emul.specs.Inside.Settled.{LiesBehind}
-use Rattle.m88_emul.specs.Timeline.{ExtendedMoment, IsExtendedOutcome, after_chosen, after_event, after_stop, extended_after, extended_outcome, is_extended_over, last_retired, seen_at, with_event_counted}
+use Rattle.m88_emul.specs.Timeline.{ExtendedMoment, IsExtendedOutcome, after_chosen, after_event, after_stop, extended_after, extended_outcome, with_event_counted}
 use Rattle.m88_emul.specs.Unaided.{IsPlainUnaided, IsUnaided}
 use Rattle.m88_emul.specs.declared.emulation.EmulOutcome.{EmulOutcome}
 use Rattle.m88_emul.specs.declared.emulation.Emulation.{Emulation}
@@ -59,62 +58,35 @@ same_deed : (p : Program) (n : ℕ) → IsUnaided p n → deed_at p (extended_st
 same_deed p n none = ap (deed_at p) (same_state p n none)
 
 -- and so are their transactions
-transacts_all : (xs ys : List Access) → map transacts xs ++ map transacts ys ≡ map transacts (xs ++ ys)
-transacts_all [] ys = refl
-transacts_all (x ∷ xs) ys = ap (λ (works : List Work). transacts x ∷ works) (transacts_all xs ys)
-
-same_work : (p : Program) (n : ℕ) → IsUnaided p n → work_before p n ≡ map transacts (transactions p n)
-unfolding work_before transactions
-same_work p zero none = refl
-same_work p (suc n) none =
-    let before = fewer_unaided p n (suc n) (omega arith) none in
-    ap₂ (λ (works : List Work) (d : Deed). works ++ work_of d) (same_work p n before)
-    (same_deed p n before ∙ turn_alone p (state p n) (none n (omega arith)))
-    ∙ transacts_all (transactions p n) (turn_accesses (turn_at p (state p n)))
-
-all_transacted : (xs : List Access) → transacted (map transacts xs) ≡ xs
-unfolding transacted
-all_transacted [] = refl
-all_transacted (x ∷ xs) = ap (λ (ys : List Access). x ∷ ys) (all_transacted xs)
-
 same_transactions : (p : Program) (n : ℕ) → IsUnaided p n → transactions_before p n ≡ transactions p n
-same_transactions p n none = ap transacted (same_work p n none) ∙ all_transacted (transactions p n)
+unfolding transactions_before transactions
+same_transactions p zero none = refl
+same_transactions p (suc n) none =
+    ap₂ (λ (xs : List Access) (d : Deed). xs ++ deed_accesses d) (same_transactions p n (fewer_unaided p n (suc n) (omega arith) none))
+    (same_deed p n (fewer_unaided p n (suc n) (omega arith) none) ∙ turn_alone p (state p n) (none n (omega arith)))
 
-bus_of_work : (done : ℕ) (xs : List Access) (bus : ℕ → ℕ) → bus_after_work done (map transacts xs) bus ≡ bus_after_all (take done xs) bus
-unfolding bus_after_work bus_after_all
-bus_of_work zero [] bus = refl
-bus_of_work (suc done) [] bus = refl
-bus_of_work zero (x ∷ xs) bus = bus_of_work zero xs bus
-bus_of_work (suc done) (x ∷ xs) bus = bus_of_work done xs (bus_after x bus)
-
-same_xip : (p : Program) (n : ℕ) → IsUnaided p n → last_retired p n ≡ xip_at p n
-unfolding last_retired xip_at
+same_xip : (p : Program) (n : ℕ) → IsUnaided p n → xip_along (extended_history p) n ≡ xip_at p n
+unfolding xip_along
 same_xip p zero none = refl
 same_xip p (suc n) none =
     ap (λ (s : State). retired_pointer s.pc) (same_state p n (fewer_unaided p n (suc n) (omega arith) none))
 
--- what is seen of a moment
-same_seen : (p : Program) (named : ℕ → Bool) (m : Moment) → IsUnaided p m.retired → seen_at p named m ≡ local_at p named m
-unfolding seen_at local_at
-same_seen p named m none =
+-- what the next event depends on
+same_next : (p : Program) (named : ℕ → Bool) (limit : ℕ) (m : Moment) → IsUnaided p m.retired →
+    situation_along (extended_history p) named limit m ≡ situation_at p named limit m
+unfolding situation_at
+same_next p named limit m none =
     let states = same_state p m.retired none in
-    let bus = ap (λ (works : List Work). bus_after_work m.done works (in_words (opening p).memory)) (same_work p m.retired none)
-    ∙ bus_of_work m.done (transactions p m.retired) (in_words (opening p).memory) in
     let made = same_transactions p m.retired none in
     let xip = same_xip p m.retired none in
-    λ i. record {
-      completed = completed_state (states i);
-      bus = bus i;
-      pending = drop m.done (made i);
+    λ i. record (situation_at p named limit m) {
+      regs = (states i).regs;
+      carry = (states i).carry;
+      mxm = (states i).mxm;
+      pc = (states i).pc;
+      next = (states i).next;
       xip = xip i;
-      bubble = m.bubble;
-      ended = if m.ended then Some (end_of_turn (turn_at p (states i))) else None;
-      absent = absent_at named m;
-      retired = m.retired;
-      done = m.done;
-      events = m.events;
-      answers = m.answers;
-      records = m.records;
+      pending = drop m.done (made i);
     }
 
 -- a moment with no emulation
@@ -149,7 +121,7 @@ plain_letter : (p : Program) (named : ℕ → Bool) (limit : ℕ) (letter : Lett
 unfolding after_event after_letter
 plain_letter p named limit letter m none ends =
     ap (λ (s : Situation). with_event_counted (after_chosen p (choice_of p letter s) (record_of p s) (plain m)))
-    (ap (situation_of limit) (same_seen p named m none) ∙ same_situation p named limit m)
+    (same_next p named limit m none)
     ∙ ap with_event_counted (plain_choice p m (choice_there p named limit letter m) (record_of p (situation_at p named limit m)) none ends)
 
 -- where software has no aid up to the limit, a program that ends does so before the limit
@@ -184,24 +156,20 @@ unfolding extended_outcome outcome_at
 plain_outcome p m none =
     let states = same_state p m.retired none in
     λ i. record {
-      outcome = record {
+      outcome = record (outcome_at p m) {
         end = unwrap_or (if m.ended then Some (end_of_turn (turn_at p (states i))) else None) Limit;
-        retired = m.retired;
         regs = (states i).regs;
         carry = (states i).carry;
         out = (states i).out;
         changed = changed_words (in_words (opening p).memory) (in_words (states i).memory);
-        events = m.events;
-        answers = m.answers;
-        records = m.records;
       };
       emulated = [];
     }
 
 over_plain : (p : Program) (limit : ℕ) (x : ExtendedMoment) (m : Moment) → x ≡ plain m → IsUnaided p m.retired →
-    is_extended_over p limit x.moment ≡ is_over p limit m
+    is_over_along (extended_history p) limit x.moment ≡ is_over p limit m
 over_plain p limit x m same none =
-    ap (λ (y : ExtendedMoment). is_extended_over p limit y.moment) same
+    ap (λ (y : ExtendedMoment). is_over_along (extended_history p) limit y.moment) same
     ∙ ap (λ (xs : List Access). m.done == length xs && (m.ended || m.retired == limit)) (same_transactions p m.retired none)
 
 plain_run : (p : Program) (named : ℕ → Bool) (limit : ℕ) (schedule : List Letter) (o : EmulOutcome) → IsUnaided p limit →
@@ -225,7 +193,7 @@ plain_is p named limit schedule o none run = record {
   value = ap (λ (x : EmulOutcome). x.outcome) (plain_run p named limit schedule o none run);
 }
   where
-    same_over : (k : ℕ) → is_extended_over p limit (extended_after p named limit schedule k).moment
+    same_over : (k : ℕ) → is_over_along (extended_history p) limit (extended_after p named limit schedule k).moment
         ≡ is_over p limit (moment_after p named limit schedule k)
     same_over k =
         let m : Moment = moment_after p named limit schedule k in
@@ -271,7 +239,7 @@ letter_alone p named limit letter m none h =
     let s : Situation = situation_at p named limit m in
     ends_alone p m (choice_of p letter s) (record_of p s) none
     (sym (ap (λ (s : Situation). (after_chosen p (choice_of p letter s) (record_of p s) (plain m)).emulated)
-    (ap (situation_of limit) (same_seen p named m none) ∙ same_situation p named limit m)) ∙ h)
+    (same_next p named limit m none)) ∙ h)
 
 -- and each instruction that was retired
 one_unaided : (p : Program) (n : ℕ) → IsUnaided p n → IsAlone (deed_at p (state p n)) → IsUnaided p (n + 1)

@@ -1,21 +1,23 @@
 -- Along the letters of a run, from its opening to the moment at which it is over.
-use Rattle.std.specs.Prelude.{ℕ, suc, Bool, true, false, List, [], ◌++◌, ◌≡◌, ◌==◌, ◌&&◌, ◌||◌}
+use Rattle.std.specs.Prelude.{ℕ, suc, Bool, true, false, List, [], ◌++◌, ◌≡◌}
 use Rattle.std.proofs.Common.{arith, refl, sym, ap, ap₂, ◌∙◌}
 use Rattle.m88_board.proofs.Laws.{not_yet}
-use Rattle.m88_event.proofs.Laws.{ended_seen, none_left, one_first}
+use Rattle.m88_event.proofs.Laws.{one_first, outcome_is_seen, over_seen}
 use Rattle.m88_event.specs.Letters.{letter_at}
 use Rattle.m88_event.specs.Local.{Local, is_over_by, local_at, move}
 use Rattle.m88_event.specs.Run.{NotBefore, outcome_by}
-use Rattle.m88_event.specs.Timeline.{Moment, end_of_turn, opening_moment, xip_at}
+use Rattle.m88_event.specs.Timeline.{is_over_along, opening_moment, xip_along}
 use Rattle.m88_event.specs.declared.letter.Letter.{Letter}
+use Rattle.m88_event.specs.declared.outcome.Outcome.{Outcome}
 use Rattle.m88_isa.specs.Bus.{bus_after_all, in_words}
-use Rattle.m88_isa.specs.History.{completed_state, transactions}
-use Rattle.m88_isa.specs.Machine.{IsProgram, Program, opening, state, turn_at}
-use Rattle.m88_emul.proofs.Following.{joins, law}
+use Rattle.m88_isa.specs.History.{transactions}
+use Rattle.m88_isa.specs.Machine.{IsProgram, Program, opening, state}
+use Rattle.m88_emul.proofs.Following.{joins, law, seen_at}
 use Rattle.m88_emul.proofs.Standing.{stands_first, stands_on}
-use Rattle.m88_emul.specs.Extended.{bus_after_work, extended_state, transacted, transactions_before, work_before}
+use Rattle.m88_emul.specs.Extended.{extended_history, extended_state, transactions_before}
+use Rattle.m88_emul.specs.Inside.Works.{bus_after_work, extended_bus, work_before}
 use Rattle.m88_emul.specs.Inside.Settled.{LiesBehind, newly_emulated, settled}
-use Rattle.m88_emul.specs.Timeline.{ExtendedMoment, IsExtendedOutcome, extended_after, extended_outcome, is_extended_over, last_retired, seen_at}
+use Rattle.m88_emul.specs.Timeline.{ExtendedMoment, IsExtendedOutcome, extended_after, extended_outcome}
 use Rattle.m88_emul.specs.declared.emulation.EmulOutcome.{EmulOutcome}
 use Rattle.m88_emul.specs.declared.emulation.Emulation.{Emulation}
 
@@ -25,11 +27,11 @@ pub record IsThere (p : Program) (named : ℕ → Bool) (limit : ℕ) (schedule 
   pub seen : l ≡ seen_at p named (extended_after p named limit schedule k).moment
   pub stands : LiesBehind p (extended_after p named limit schedule k).moment
   pub joined : emulated ≡ (extended_after p named limit schedule k).emulated
-  pub first : NotBefore (λ j. is_extended_over p limit (extended_after p named limit schedule j).moment) k
+  pub first : NotBefore (λ j. is_over_along (extended_history p) limit (extended_after p named limit schedule j).moment) k
 
 -- nothing has happened yet
 same_opening : (p : Program) (named : ℕ → Bool) → local_at p named opening_moment ≡ seen_at p named opening_moment
-unfolding local_at seen_at state extended_state transactions work_before transacted bus_after_all bus_after_work xip_at last_retired
+unfolding local_at state extended_state transactions transactions_before work_before bus_after_all bus_after_work xip_along
 same_opening p named = refl
 
 pub there_first : (p : Program) (named : ℕ → Bool) (limit : ℕ) (schedule : List Letter) (l : Local) (emulated : List Emulation) →
@@ -48,18 +50,11 @@ unfolding local_at transactions
 opens_empty p named l opens = ap (λ (x : Local). x.pending) opens
 
 -- whether a run is over is seen
-pub over_seen : (p : Program) (named : ℕ → Bool) (limit : ℕ) (m : Moment) → LiesBehind p m →
-    is_over_by limit (seen_at p named m) ≡ is_extended_over p limit m
-unfolding seen_at
-over_seen p named limit m stands =
-    ap₂ (λ none ended. none && (ended || m.retired == limit)) (none_left m.done (transactions_before p m.retired) stands.within)
-    (ended_seen m.ended (end_of_turn (turn_at p (extended_state p m.retired))))
-
 over_there : (p : Program) (named : ℕ → Bool) (limit : ℕ) (schedule : List Letter) (k : ℕ) (l : Local) (emulated : List Emulation) →
     IsThere p named limit schedule k l emulated →
-    is_extended_over p limit (extended_after p named limit schedule k).moment ≡ is_over_by limit l
+    is_over_along (extended_history p) limit (extended_after p named limit schedule k).moment ≡ is_over_by limit l
 over_there p named limit schedule k l emulated there =
-    sym (over_seen p named limit (extended_after p named limit schedule k).moment there.stands)
+    sym (over_seen (extended_history p) (extended_bus p) named limit (extended_after p named limit schedule k).moment there.stands.within)
     ∙ ap (is_over_by limit) (sym there.seen)
 
 -- one event more
@@ -79,15 +74,16 @@ there_next p named limit schedule k l new emulated more is there goes moved join
           joined
           ∙ ap₂ (λ (xs : List Emulation) (s : Local). xs ++ newly_emulated p (move p limit letter s)) there.joined there.seen
           ∙ joins p named limit letter x is there.stands;
-      first = not_yet (λ j. is_extended_over p limit (extended_after p named limit schedule j).moment) k there.first
+      first = not_yet (λ j. is_over_along (extended_history p) limit (extended_after p named limit schedule j).moment) k there.first
           (over_there p named limit schedule k l emulated there ∙ goes);
     }
 
 -- what a run comes to that is over
 same_outcome : (p : Program) (named : ℕ → Bool) (x : ExtendedMoment) →
     record { outcome = outcome_by (in_words (opening p).memory) (seen_at p named x.moment); emulated = x.emulated } ≡ extended_outcome p x
-unfolding outcome_by extended_outcome seen_at completed_state
-same_outcome p named x = refl
+unfolding extended_outcome
+same_outcome p named x =
+    ap (λ (o : Outcome). record { outcome = o; emulated = x.emulated }) (outcome_is_seen (extended_history p) (extended_bus p) named x.moment)
 
 pub there_over : (p : Program) (named : ℕ → Bool) (limit : ℕ) (schedule : List Letter) (k : ℕ) (l : Local) (emulated : List Emulation)
     (o : EmulOutcome) → IsThere p named limit schedule k l emulated → is_over_by limit l ≡ true →
@@ -109,5 +105,5 @@ pub one_outcome : (p : Program) (named : ℕ → Bool) (limit : ℕ) (schedule :
     IsExtendedOutcome p named limit schedule b →
     a ≡ b
 one_outcome p named limit schedule a b x y =
-    let same = one_first (λ k. is_extended_over p limit (extended_after p named limit schedule k).moment) x.events y.events x.run y.run in
+    let same = one_first (λ k. is_over_along (extended_history p) limit (extended_after p named limit schedule k).moment) x.events y.events x.run y.run in
     x.value ∙ ap (λ k. extended_outcome p (extended_after p named limit schedule k)) same ∙ sym y.value

@@ -8,7 +8,6 @@ use Rattle.m88_base.specs.RegisterSet as set
 use Rattle.m88_base.specs.Triple.{no_triple}
 use Rattle.m88_isa.specs.Bus.{bus_after_all, in_words, stored, waits_for, with_word}
 use Rattle.m88_isa.specs.Held.{busy_register, first_from}
-use Rattle.m88_isa.specs.History.{completed_state}
 use Rattle.m88_isa.specs.Machine.{Program, opening}
 use Rattle.m88_isa.specs.Operands.{uses_of, writes_of}
 use Rattle.m88_isa.specs.declared.instr.ImmOp.TheVariants as immop
@@ -19,17 +18,18 @@ use Rattle.m88_isa.specs.declared.instr.MemOp.TheVariants as memop
 use Rattle.m88_isa.specs.declared.instr.RegOp.TheVariants as regop
 use Rattle.m88_event.proofs.Laws.{fault, first_after, im, mem, regs, set_from, triple}
 use Rattle.m88_event.specs.Letters.{letter_at}
-use Rattle.m88_event.specs.Local.{situation_of}
 use Rattle.m88_event.specs.Run.{IsFirst}
 use Rattle.m88_event.specs.Situation.{record_of}
+use Rattle.m88_event.specs.Timeline.{is_over_along, xip_along}
 use Rattle.m88_event.specs.declared.happened.End.{End}
 use Rattle.m88_event.specs.declared.happened.End.TheVariants.{Exit, Limit, Vector}
 use Rattle.m88_event.specs.declared.letter.Letter.{Letter}
 use Rattle.m88_event.specs.declared.letter.Letter.TheVariants.{Answer as r, Evict as e, Issue as i}
 use Rattle.m88_event.specs.declared.record.Record.{Record}
 use Rattle.m88_emul.specs.Aid.{byte_stores, number_behind, places_from, with_all}
-use Rattle.m88_emul.specs.Extended.{bus_after_work, extended_bus, extended_state, stored_all, transacted, work_before}
-use Rattle.m88_emul.specs.Timeline.{ExtendedMoment, after_event, extended_after, extended_outcome, has_place_in, is_extended_over, last_retired, seen_at}
+use Rattle.m88_emul.specs.Extended.{extended_history, extended_state, stored_all, transactions_before}
+use Rattle.m88_emul.specs.Inside.Works.{bus_after_work, extended_bus, work_before}
+use Rattle.m88_emul.specs.Timeline.{ExtendedMoment, after_event, extended_after, extended_outcome, has_place_in}
 use Rattle.m88_emul.specs.declared.emulation.EmulOutcome.{EmulOutcome}
 use Rattle.m88_emul.specs.declared.emulation.Emulation.{Emulation}
 
@@ -102,7 +102,7 @@ came w = came_by w (last_of w) (extended_outcome (program_of w) (last_of w))
 
 -- a run is over after so many events
 abbrev over_at : Worked → ℕ → Bool
-over_at w k = is_extended_over (program_of w) w.limit (moment_of w k).moment
+over_at w k = is_over_along (extended_history (program_of w)) w.limit (moment_of w k).moment
 
 -- the least such number below the one by hand, and whether that one is such
 abbrev over_before : Worked → Option ℕ
@@ -338,9 +338,9 @@ each_after (w ∷ runs) none here =
     (first_after (over_at w) w.comes.events not_before over, each_after runs before after)
 
 events_by_hand : HaveEvents worked
-unfolding worked divided loaded supplied waited around between rounded sized delayed extended_after after_event extended_outcome extended_state seen_at last_retired has_place_in work_before transacted bus_after_work stored_all byte_stores number_behind places_from with_all completed_state situation_of record_of letter_at opening bus_after_all stored with_word waits_for busy_register first_from uses_of writes_of in_words set.bits_below
+unfolding worked divided loaded supplied waited around between rounded sized delayed extended_after after_event extended_outcome extended_state xip_along has_place_in transactions_before work_before bus_after_work stored_all byte_stores number_behind places_from with_all record_of letter_at opening bus_after_all stored with_word waits_for busy_register first_from uses_of writes_of in_words set.bits_below
 events_by_hand = each_after worked refl refl
 
 as_by_hand : map came worked ≡ map (λ w. w.comes) worked
-unfolding worked divided loaded supplied waited around between rounded sized delayed extended_after after_event extended_outcome extended_state seen_at last_retired has_place_in work_before transacted bus_after_work stored_all byte_stores number_behind places_from with_all completed_state situation_of record_of letter_at opening bus_after_all stored with_word waits_for busy_register first_from uses_of writes_of in_words set.bits_below
+unfolding worked divided loaded supplied waited around between rounded sized delayed extended_after after_event extended_outcome extended_state xip_along has_place_in transactions_before work_before bus_after_work stored_all byte_stores number_behind places_from with_all record_of letter_at opening bus_after_all stored with_word waits_for busy_register first_from uses_of writes_of in_words set.bits_below
 as_by_hand = refl

@@ -1,15 +1,15 @@
 -- The history of the machine with software behind it: that of the sequential machine, where an instruction that raises
 -- has its changes in place of ending the program if software has an aid for it.
-use Rattle.std.specs.Prelude.{ℕ, zero, suc, Bool, false, List, [], ◌∷◌, ◌++◌, Option, Some, None, map}
+use Rattle.std.specs.Prelude.{ℕ, zero, suc, Bool, false, List, [], ◌∷◌, ◌++◌, Option, Some, None}
 use Rattle.m88_isa.specs.Address.{after_bytes, word_address}
-use Rattle.m88_isa.specs.Bus.{bus_after, bus_after_all, in_words}
 use Rattle.m88_isa.specs.Held.{instruction_at}
 use Rattle.m88_isa.specs.History.{turn_accesses}
 use Rattle.m88_isa.specs.Lanes.{datum_of, enable_of, stored_at}
 use Rattle.m88_isa.specs.Machine.{Program, State, Turn, by_vector, changes, exits, opening, outputs, state_after, stepped, stops, turn}
-use Rattle.m88_isa.specs.Memory.{Touch, access_of}
+use Rattle.m88_isa.specs.Memory.{Touch}
 use Rattle.m88_isa.specs.declared.instr.Instr.{Instr}
 use Rattle.m88_isa.specs.declared.planned.Access.{Access}
+use Rattle.m88_event.specs.Timeline.{History}
 use Rattle.m88_emul.specs.Aid.{Aid, aid_of, with_all}
 
 -- what becomes of an instruction in its turn: what the machine alone makes of it, or for the vector that it raises what
@@ -72,41 +72,19 @@ unfoldable pub extended_state : Program → ℕ → State
 extended_state p zero = opening p
 extended_state p (suc n) = after_deed (deed_at p (extended_state p n)) (extended_state p n)
 
--- what goes to memory: a transaction, or the bytes that software stores, which make none
-pub data Work : Type 0 where
-  transacts : Access → Work
-  mends : List Access → Work
+-- the transactions of a deed: what software stores makes none
+abbrev pub deed_accesses : Deed → List Access
+deed_accesses (alone turn) = turn_accesses turn
+deed_accesses (aided vector aid) = []
 
--- the work of a deed
-abbrev pub work_of : Deed → List Work
-work_of (alone turn) = map transacts (turn_accesses turn)
-work_of (aided vector aid) = mends (map access_of aid.stores) ∷ []
+-- the transactions of the first steps of the extended history, the oldest first
+unfoldable pub transactions_before : Program → ℕ → List Access
+transactions_before p zero = []
+transactions_before p (suc n) = transactions_before p n ++ deed_accesses (deed_at p (extended_state p n))
 
--- the work of the first steps of a history, in order
-unfoldable pub work_before : Program → ℕ → List Work
-work_before p zero = []
-work_before p (suc n) = work_before p n ++ work_of (deed_at p (extended_state p n))
-
--- the transactions among some work
-unfoldable pub transacted : List Work → List Access
-transacted [] = []
-transacted (transacts a ∷ works) = a ∷ transacted works
-transacted (mends xs ∷ works) = transacted works
-
--- the transactions of the first steps, the oldest first
-abbrev pub transactions_before : Program → ℕ → List Access
-transactions_before p n = transacted (work_before p n)
-
--- the words after all that software stored and the first so many transactions, in the order of the history
-unfoldable pub bus_after_work : ℕ → List Work → (ℕ → ℕ) → ℕ → ℕ
-bus_after_work done [] bus = bus
-bus_after_work zero (transacts a ∷ works) bus = bus_after_work zero works bus
-bus_after_work (suc done) (transacts a ∷ works) bus = bus_after_work done works (bus_after a bus)
-bus_after_work done (mends xs ∷ works) bus = bus_after_work done works (bus_after_all xs bus)
-
--- memory by words behind the first steps, of whose transactions the first so many are done
-abbrev pub extended_bus : Program → ℕ → ℕ → ℕ → ℕ
-extended_bus p n done = bus_after_work done (work_before p n) (in_words (opening p).memory)
+-- the extended history, with its transactions
+abbrev pub extended_history : Program → History
+extended_history p = record { program = p; state = extended_state p; made = transactions_before p }
 
 -- memory by bytes, as its words show it
 unfoldable pub byte_seen : (ℕ → ℕ) → ℕ → ℕ

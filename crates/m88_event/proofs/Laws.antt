@@ -8,21 +8,20 @@ pub use Rattle.m88_event.proofs.Over.{one_first, one_outcome}
 pub use Rattle.m88_event.proofs.Over.{first_after}
 -- an outcome and the end of a run are seen of what a board has of its moment
 pub use Rattle.m88_event.proofs.Over.{drained_seen, outcome_seen, same_over}
--- nothing is pending exactly where all transactions are done
-pub use Rattle.m88_event.proofs.Over.{none_left}
 -- what answers of the data unit leave as it is, and memory behind the last of them
 pub use Rattle.m88_event.proofs.Over.{answered_issues_none, drained_bus, issued_of}
 -- Moments: what is seen of one moves to what is seen of the next, and says the same.
-pub use Rattle.m88_event.proofs.Follows.{ended_is, ended_seen, law as moves_as_seen, same_said, same_situation}
--- where something is pending, not all transactions are done; one that is answered is done, for what is pending and for
--- memory
-pub use Rattle.m88_event.proofs.Follows.{answered_bus, some_left, split_drop}
--- a page is absent that was and isn't supplied now, as all are where none was supplied
-pub use Rattle.m88_event.proofs.Follows.{all_absent, supplied_more}
+pub use Rattle.m88_event.proofs.Follows.{ended_is, law as moves_as_seen, same_said, same_situation}
+-- a transaction that is answered is done, for memory and for what is pending
+pub use Rattle.m88_event.proofs.Follows.{answered_bus}
+pub use Rattle.m88_event.proofs.Histories.{split_drop}
 -- no moment of a run is past what was made, each letter's choice fits its moment, and more instructions make no fewer
 -- transactions
 pub use Rattle.m88_event.proofs.Follows.{Fits, fits, more_transactions, stays_within}
--- what lies behind a moment is so at the opening, at the next moment where it is so at this one, and so at each of a run
+-- Any history: each letter's choice fits its moment; what is seen of a moment moves as the words of memory along the
+-- history do; and whether a run is over, and what it comes to, is seen
+pub use Rattle.m88_event.proofs.Histories.{AreWords, FitsAlong, IsStep, choice_seen, fits_along, next_xip, outcome_is_seen, over_seen, situation_seen, supplied}
+-- Past: what lies behind a moment is so at the opening, at the next moment where it is so at this one, and so at each of a run
 pub use Rattle.m88_event.proofs.Past.{keeps_past, opens_with, past_after}
 -- each letter is one event
 pub use Rattle.m88_event.proofs.Past.{letter_events}
@@ -32,7 +31,7 @@ pub use Rattle.m88_event.proofs.Bound.{answered_lessens, fuel_stays, lessens, we
 pub use Rattle.m88_event.proofs.Bound.{stays_in_limit}
 -- a mark counts one at most, and no more than a number that is at least one where it is set
 pub use Rattle.m88_event.proofs.Bound.{least_of, one_at_most}
--- Precise faults: nothing is pending where an instruction is served or ends the program.
-pub use Rattle.m88_event.proofs.Precise.{IsLastChoice, precise_by, precise_choice}
+-- Precise faults: nothing is pending where an instruction is served or ends the program, and then all are done.
+pub use Rattle.m88_event.proofs.Precise.{IsLastChoice, nothing_left, precise_by, precise_choice}
 -- Worked examples: their instructions, words and records in short, and the registers that aren't 0.
 pub use Rattle.m88_event.proofs.Worked.{fault, im, mem, regs, set_from, triple}

@@ -1,36 +1,28 @@
 -- The moment at which a run is over: what is seen of it, that there is one and no other, and what its memory is.
-use Rattle.std.specs.Prelude.{ℕ, zero, suc, Bool, true, false, not, List, [], ◌∷◌, None, ◌≡◌, ◌≢◌, ◌<◌, ◌≤◌, ◌⊎◌, ◌+◌, ◌-◌, ◌*◌, ◌==◌, ◌&&◌, ◌||◌, drop, length, nat_lt}
+use Rattle.std.specs.Prelude.{ℕ, zero, suc, Bool, true, false, not, List, [], ◌∷◌, None, ◌≡◌, ◌≢◌, ◌<◌, ◌≤◌, ◌⊎◌, ◌+◌, ◌*◌, ◌==◌, length, nat_lt}
 use Rattle.std.proofs.Common.{arith, add-one, refl, sym, ap, ap₂, ◌∙◌, subst, inl, inr}
 use Rattle.std.proofs.lemmas.Bool.{eqb-false, eqb-true, ltb-false, ltb-true}
-use Rattle.std.proofs.lemmas.Bool.Decides.{nat_tests}
-use Rattle.std.proofs.lemmas.List.{length-drop, take_all}
+use Rattle.std.proofs.lemmas.List.{take_all}
 use Rattle.m88_isa.proofs.Laws.{by_test, none_from, state_bus}
 use Rattle.m88_base.specs.Pages.{page_number}
 use Rattle.m88_isa.specs.Bus.{bus_after_all, in_words}
 use Rattle.m88_isa.specs.Held.{first_from, is_pending}
-use Rattle.m88_isa.specs.History.{bus_at, completed_state, pending_at, transaction_count, transactions}
+use Rattle.m88_isa.specs.History.{bus_at, pending_at, transaction_count, transactions}
 use Rattle.m88_isa.specs.Machine.{IsProgram, Program, opening, state}
 use Rattle.m88_isa.specs.declared.planned.Access.{Access}
 use Rattle.m88_event.proofs.Bound.{lessens, stays_in_limit, weight_at_start}
-use Rattle.m88_event.proofs.Follows.{ended_is, law, reached_within}
+use Rattle.m88_event.proofs.Follows.{law, reached_within}
+use Rattle.m88_event.proofs.Histories.{none_left, outcome_is_seen, over_seen}
 use Rattle.m88_event.specs.Bound.{weight}
 use Rattle.m88_event.specs.Choice.{answer_choice}
 use Rattle.m88_event.specs.Letters.{letter_at}
 use Rattle.m88_event.specs.Local.{Local, is_over_by, local_at, move}
 use Rattle.m88_event.specs.Run.{IsFirst, IsOutcome, IsRun, answered_after, moment_after, moment_along, outcome_at, outcome_by}
-use Rattle.m88_event.specs.Timeline.{DoneWereMade, Moment, absent_at, after_choice, after_letter, is_drained, is_over, situation_at}
+use Rattle.m88_event.specs.Timeline.{DoneWereMade, Moment, absent_at, after_choice, after_letter, history, is_drained, is_over, situation_at}
 use Rattle.m88_event.specs.Situation.{record_of}
 use Rattle.m88_event.specs.declared.letter.Letter.{Letter}
 use Rattle.m88_event.specs.declared.outcome.Outcome.{Outcome}
 use Rattle.m88_event.specs.declared.record.Record.{Record}
-
--- nothing is pending exactly where all transactions are done
-pub none_left : (done : ℕ) (xs : List Access) → done ≤ length xs → not (is_pending (drop done xs)) ≡ (done == length xs)
-none_left done xs within = by_left (drop done xs) (length-drop done xs)
-  where
-    by_left : (left : List Access) → length left ≡ length xs - done → not (is_pending left) ≡ (done == length xs)
-    by_left [] e = let all : done ≡ length xs = omega (arith, e, within) in grind (arith, nat_tests)
-    by_left (x ∷ left) e = let some : done ≢ length xs = omega (arith, e) in grind (arith, nat_tests)
 
 pub drained_seen : (p : Program) (named : ℕ → Bool) (m : Moment) → DoneWereMade p m →
     not (is_pending (local_at p named m).pending) ≡ is_drained p m
@@ -40,8 +32,7 @@ drained_seen p named m within = none_left m.done (transactions p m.retired) with
 pub same_over : (p : Program) (named : ℕ → Bool) (limit : ℕ) (m : Moment) → DoneWereMade p m →
     is_over_by limit (local_at p named m) ≡ is_over p limit m
 unfolding local_at
-same_over p named limit m within =
-    ap₂ (λ none ended. none && (ended || m.retired == limit)) (none_left m.done (transactions p m.retired) within) (ended_is p m)
+same_over p = over_seen (history p) (bus_at p)
 
 -- where all transactions are done, memory is that of the history
 pub drained_bus : (p : Program) (n done : ℕ) → IsProgram p → done ≡ transaction_count p n →
@@ -53,8 +44,8 @@ drained_bus p n done bytes e =
 -- what is seen of a moment comes to what the moment does
 pub outcome_seen : (p : Program) (named : ℕ → Bool) (m : Moment) →
     outcome_by (in_words (opening p).memory) (local_at p named m) ≡ outcome_at p m
-unfolding outcome_by outcome_at local_at completed_state
-outcome_seen p named m = refl
+unfolding outcome_at local_at
+outcome_seen p = outcome_is_seen (history p) (bus_at p)
 
 -- letters `r` retire no instruction, and leave the marks of a bubble and of the end
 abbrev pub issued_of : Moment → ℕ × Bool × Bool

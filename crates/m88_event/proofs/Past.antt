@@ -185,7 +185,7 @@ by_choice p limit m (finishes stop) fault past fit room drained = record {
   within = past.within;
   retired = past.retired;
   pending = past.pending;
-  ended = λ ended. record { next = ap is_stop fit; early = fewer limit m past.within room.0; drained = drained tt };
+  ended = λ ended. record { next = ap is_stop fit.0; early = fewer limit m past.within room.0; drained = drained tt };
   bubbled = past.bubbled;
   unbubbled = λ ended. room.1;
   counted = past.counted;

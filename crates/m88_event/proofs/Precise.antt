@@ -130,7 +130,7 @@ precise_by p limit letter l h =
     (last_said (choice_of p letter (situation_of limit l)) (record_of p (situation_of limit l)) h)
 
 -- at a moment
-nothing_left : (done : ℕ) (xs : List Access) → done ≤ length xs → is_pending (drop done xs) ≡ false → done ≡ length xs
+pub nothing_left : (done : ℕ) (xs : List Access) → done ≤ length xs → is_pending (drop done xs) ≡ false → done ≡ length xs
 nothing_left done xs within none = by_left (drop done xs) (length-drop done xs) none
   where
     by_left : (left : List Access) → length left ≡ length xs - done → is_pending left ≡ false → done ≡ length xs

@@ -21,7 +21,7 @@ use Rattle.m88_isa.specs.declared.instr.RegOp.{RegOp}
 use Rattle.m88_event.specs.Letters.{letter_at}
 use Rattle.m88_event.specs.Run.{moment_after, moment_along}
 use Rattle.m88_event.specs.Situation.{record_of}
-use Rattle.m88_event.specs.Timeline.{Moment, after_letter, end_at, is_over, opening_moment, situation_at, xip_at}
+use Rattle.m88_event.specs.Timeline.{Moment, after_letter, end_at, is_over, opening_moment, situation_at, xip_along}
 use Rattle.m88_event.specs.declared.happened.End.{End}
 use Rattle.m88_event.specs.declared.happened.End.TheVariants.{Limit, Exit, Vector}
 use Rattle.m88_event.specs.declared.letter.Letter.{Letter}
@@ -491,5 +491,5 @@ worked =
     ∷ []
 
 as_by_hand : map came worked ≡ map (λ w. w.comes) worked
-unfolding worked moment_along after_letter situation_at record_of xip_at letter_at state opening transactions waits_for busy_register first_from uses_of writes_of in_words set.bits_below
+unfolding worked moment_along after_letter situation_at record_of xip_along letter_at state opening transactions waits_for busy_register first_from uses_of writes_of in_words set.bits_below
 as_by_hand = refl

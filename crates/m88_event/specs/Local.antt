@@ -12,7 +12,7 @@ use Rattle.m88_isa.specs.declared.planned.Access.{Access}
 use Rattle.m88_event.specs.Choice.{Choice, choice_of, end_by, evicts, faults, finishes, holds, idles, issues, passes, replies, said, serves, touches_page}
 use Rattle.m88_event.specs.Shadow.{retired_pointer}
 use Rattle.m88_event.specs.Situation.{Situation, record_of}
-use Rattle.m88_event.specs.Timeline.{Moment, absent_at, end_at, xip_at}
+use Rattle.m88_event.specs.Timeline.{History, Moment, absent_at, end_along, history, pending_along, xip_along}
 use Rattle.m88_event.specs.declared.happened.End.{End}
 use Rattle.m88_event.specs.declared.happened.Happened.{Happened}
 use Rattle.m88_event.specs.declared.letter.Letter.{Letter}
@@ -117,15 +117,16 @@ register_seen pending regs register = if waits_for pending register then None el
 abbrev pub register_shown : Program → Moment → ℕ → Option ℕ
 register_shown p m = register_seen (pending_at p m.retired m.done) (state p m.retired).regs
 
--- what a moment looks like
-unfoldable pub local_at : Program → (ℕ → Bool) → Moment → Local
-local_at p named m = record {
-  completed = completed_state (state p m.retired);
-  bus = bus_at p m.retired m.done;
-  pending = pending_at p m.retired m.done;
-  xip = xip_at p m.retired;
+-- what a moment of a history looks like: `words` is memory by words after so many instructions, of whose transactions
+-- the first so many are done
+abbrev pub local_along : History → (ℕ → ℕ → ℕ → ℕ) → (ℕ → Bool) → Moment → Local
+local_along h words named m = record {
+  completed = completed_state (h.state m.retired);
+  bus = words m.retired m.done;
+  pending = pending_along h m;
+  xip = xip_along h m.retired;
   bubble = m.bubble;
-  ended = end_at p m;
+  ended = end_along h m;
   absent = absent_at named m;
   retired = m.retired;
   done = m.done;
@@ -133,3 +134,7 @@ local_at p named m = record {
   answers = m.answers;
   records = m.records;
 }
+
+-- what a moment of the sequential machine's history looks like
+unfoldable pub local_at : Program → (ℕ → Bool) → Moment → Local
+local_at p = local_along (history p) (bus_at p)

@@ -3,10 +3,10 @@
 -- along letters `r` to the first at which nothing is pending.
 use Rattle.std.specs.Prelude.{ℕ, zero, suc, Bool, true, false, List, ◌≡◌, ◌<◌, ◌+◌, unwrap_or}
 use Rattle.m88_isa.specs.Bus.{changed_words, in_words}
-use Rattle.m88_isa.specs.Machine.{Program, opening, state}
+use Rattle.m88_isa.specs.Machine.{Program, opening}
 use Rattle.m88_event.specs.Letters.{letter_at}
 use Rattle.m88_event.specs.Local.{Local}
-use Rattle.m88_event.specs.Timeline.{Moment, after_letter, end_at, is_drained, is_over, opening_moment}
+use Rattle.m88_event.specs.Timeline.{History, Moment, after_letter, end_along, history, is_drained, is_over, opening_moment}
 use Rattle.m88_event.specs.declared.happened.End.TheVariants.{Limit}
 use Rattle.m88_event.specs.declared.letter.Letter.{Letter}
 use Rattle.m88_event.specs.declared.letter.Letter.TheVariants.{Answer}
@@ -45,18 +45,22 @@ IsRun p named limit schedule = IsFirst (λ k. is_over p limit (moment_after p na
 
 -- what a run comes to that is over at a moment: the end of the history where the program ended, and else the limit;
 -- registers, carry, output and memory of the history after as many instructions; the counts and records of the moment
-unfoldable pub outcome_at : Program → Moment → Outcome
-outcome_at p m = record {
-  end = unwrap_or (end_at p m) Limit;
+abbrev pub outcome_along : History → Moment → Outcome
+outcome_along h m = record {
+  end = unwrap_or (end_along h m) Limit;
   retired = m.retired;
-  regs = (state p m.retired).regs;
-  carry = (state p m.retired).carry;
-  out = (state p m.retired).out;
-  changed = changed_words (in_words (opening p).memory) (in_words (state p m.retired).memory);
+  regs = (h.state m.retired).regs;
+  carry = (h.state m.retired).carry;
+  out = (h.state m.retired).out;
+  changed = changed_words (in_words (opening h.program).memory) (in_words (h.state m.retired).memory);
   events = m.events;
   answers = m.answers;
   records = m.records;
 }
+
+-- what a run along the history of the sequential machine comes to
+unfoldable pub outcome_at : Program → Moment → Outcome
+outcome_at p = outcome_along (history p)
 
 -- what is seen of a board that is over comes to, against the words of memory at first
 unfoldable pub outcome_by : (ℕ → ℕ) → Local → Outcome

@@ -1,11 +1,11 @@
 -- The timeline of a run: its moments, each a count of the instructions that are retired and one of the transactions
--- that are done along the history of the sequential machine, and what a letter makes of one.
-use Rattle.std.specs.Prelude.{ℕ, zero, suc, Bool, true, false, not, List, [], ◌∷◌, ◌++◌, Option, Some, None, ◌+◌, ◌≤◌, ◌==◌, ◌&&◌, ◌||◌, length, if◌then◌else◌}
+-- that are done along a history, and what a letter makes of one along the history of the sequential machine.
+use Rattle.std.specs.Prelude.{ℕ, zero, suc, Bool, true, false, not, List, [], ◌∷◌, ◌++◌, Option, Some, None, ◌+◌, ◌≤◌, ◌==◌, ◌&&◌, ◌||◌, drop, length, if◌then◌else◌}
 use Rattle.m88_base.specs.Pages.{every_page}
 use Rattle.m88_base.specs.Slot.{no_slot}
 use Rattle.m88_base.specs.declared.slot.Slot.{Slot}
-use Rattle.m88_isa.specs.History.{pending_at, transaction_count}
-use Rattle.m88_isa.specs.Machine.{Program, Turn, changes, outputs, state, stops, turn_at}
+use Rattle.m88_isa.specs.History.{pending_at, transaction_count, transactions}
+use Rattle.m88_isa.specs.Machine.{Program, State, Turn, changes, outputs, state, stops, turn_at}
 use Rattle.m88_isa.specs.declared.planned.Access.{Access}
 use Rattle.m88_event.specs.Choice.{Choice, choice_of, end_by, evicts, faults, finishes, holds, idles, issues, passes, replies, said, serves, touches_page}
 use Rattle.m88_event.specs.Shadow.{nip_of, retired_pointer}
@@ -44,10 +44,24 @@ opening_moment = record {
   records = [];
 }
 
+-- a history of a program: the state after so many instructions, and the transactions that these made, the oldest first
+pub record History : Type 0 where
+  pub program : Program
+  pub state : ℕ → State
+  pub made : ℕ → List Access
+
+-- the history of the sequential machine
+abbrev pub history : Program → History
+history p = record { program = p; state = state p; made = transactions p }
+
 -- the instruction retired last
-unfoldable pub xip_at : Program → ℕ → Slot
-xip_at p zero = no_slot
-xip_at p (suc n) = retired_pointer (state p n).pc
+unfoldable pub xip_along : History → ℕ → Slot
+xip_along h zero = no_slot
+xip_along h (suc n) = retired_pointer (h.state n).pc
+
+-- the instruction that the sequential machine retired last
+abbrev pub xip_at : Program → ℕ → Slot
+xip_at p = xip_along (history p)
 
 -- NIP at a moment: the next instruction, or the one that is passed over
 abbrev pub nip_at : Program → Moment → Slot
@@ -65,28 +79,40 @@ end_of_turn (outputs byte) = Limit
 end_of_turn (stops stop) = end_by stop
 
 -- how the program has ended, if it has: as its history does
+abbrev pub end_along : History → Moment → Option End
+end_along h m = if m.ended then Some (end_of_turn (turn_at h.program (h.state m.retired))) else None
+
+-- how the program has ended by the history of the sequential machine
 abbrev pub end_at : Program → Moment → Option End
-end_at p m = if m.ended then Some (end_of_turn (turn_at p (state p m.retired))) else None
+end_at p = end_along (history p)
 
 -- no more may be issued: the program has ended, or as many instructions are retired as the limit
 abbrev pub is_idle : ℕ → Moment → Bool
 is_idle limit m = m.ended || m.retired == limit
 
+-- the transactions that were made and aren't done
+abbrev pub pending_along : History → Moment → List Access
+pending_along h m = drop m.done (h.made m.retired)
+
 -- what the next event depends on
-unfoldable pub situation_at : Program → (ℕ → Bool) → ℕ → Moment → Situation
-situation_at p named limit m = record {
-  regs = (state p m.retired).regs;
-  carry = (state p m.retired).carry;
-  mxm = (state p m.retired).mxm;
-  pc = (state p m.retired).pc;
-  next = (state p m.retired).next;
-  xip = xip_at p m.retired;
+abbrev pub situation_along : History → (ℕ → Bool) → ℕ → Moment → Situation
+situation_along h named limit m = record {
+  regs = (h.state m.retired).regs;
+  carry = (h.state m.retired).carry;
+  mxm = (h.state m.retired).mxm;
+  pc = (h.state m.retired).pc;
+  next = (h.state m.retired).next;
+  xip = xip_along h m.retired;
   bubble = m.bubble;
   idle = is_idle limit m;
-  pending = pending_at p m.retired m.done;
+  pending = pending_along h m;
   absent = absent_at named m;
   event = m.events + 1;
 }
+
+-- what the next event depends on along the history of the sequential machine
+unfoldable pub situation_at : Program → (ℕ → Bool) → ℕ → Moment → Situation
+situation_at p = situation_along (history p)
 
 -- what a choice makes of a moment with these pending transactions, but for the count of events; a data fault leaves
 -- its record, supplies the pages of all of them and finishes them
@@ -128,12 +154,20 @@ unfoldable pub said_at : Program → (ℕ → Bool) → ℕ → Letter → Momen
 said_at p named limit letter m = said (choice_at p named limit letter m) (record_at p named limit m)
 
 -- nothing is pending: all transactions are done
-abbrev pub is_drained : Program → Moment → Bool
-is_drained p m = m.done == transaction_count p m.retired
+abbrev pub is_drained_along : History → Moment → Bool
+is_drained_along h m = m.done == length (h.made m.retired)
 
 -- the run is over: nothing is pending, and no more may be issued
+abbrev pub is_over_along : History → ℕ → Moment → Bool
+is_over_along h limit m = is_drained_along h m && is_idle limit m
+
+-- nothing is pending along the history of the sequential machine
+abbrev pub is_drained : Program → Moment → Bool
+is_drained p = is_drained_along (history p)
+
+-- the run along the history of the sequential machine is over
 abbrev pub is_over : Program → ℕ → Moment → Bool
-is_over p limit m = is_drained p m && is_idle limit m
+is_over p = is_over_along (history p)
 
 -- no more transactions are done than were made, as at every moment that a run comes to
 abbrev pub DoneWereMade : Program → Moment → Type 0

@@ -18,7 +18,7 @@ use Rattle.m88_isa.specs.declared.instr.RegOp.TheVariants as regop
 use Rattle.m88_event.proofs.Laws.{fault, first_after, im, mem, regs, set_from, triple}
 use Rattle.m88_event.specs.Run.{outcome_at}
 use Rattle.m88_event.specs.Situation.{record_of}
-use Rattle.m88_event.specs.Timeline.{after_letter, situation_at, xip_at}
+use Rattle.m88_event.specs.Timeline.{after_letter, situation_at, xip_along}
 use Rattle.m88_event.specs.declared.happened.End.{End}
 use Rattle.m88_event.specs.declared.happened.End.TheVariants.{Limit, Vector}
 use Rattle.m88_event.specs.declared.letter.Letter.{Letter}
@@ -291,9 +291,9 @@ each_after (w ∷ runs) none here =
     (first_after (over_at w) w.comes.events not_before over, each_after runs before after)
 
 events_by_hand : HaveEvents worked
-unfolding worked divided divided_by held cycled cycled_by apart idle shared_after share_letter_at next_from turn_letter_at outcomes_of outcome_at after_letter situation_at record_of xip_at state opening transactions waits_for busy_register first_from uses_of writes_of in_words set.bits_below
+unfolding worked divided divided_by held cycled cycled_by apart idle shared_after share_letter_at next_from turn_letter_at outcomes_of outcome_at after_letter situation_at record_of xip_along state opening transactions waits_for busy_register first_from uses_of writes_of in_words set.bits_below
 events_by_hand = each_after worked refl refl
 
 as_by_hand : map came worked ≡ map (λ w. w.comes) worked
-unfolding worked divided divided_by held cycled cycled_by apart idle shared_after share_letter_at next_from turn_letter_at outcomes_of outcome_at after_letter situation_at record_of xip_at state opening transactions waits_for busy_register first_from uses_of writes_of in_words set.bits_below
+unfolding worked divided divided_by held cycled cycled_by apart idle shared_after share_letter_at next_from turn_letter_at outcomes_of outcome_at after_letter situation_at record_of xip_along state opening transactions waits_for busy_register first_from uses_of writes_of in_words set.bits_below
 as_by_hand = refl

@@ -424,7 +424,7 @@ ended_note p named limit m old new end is past says added traced =
     let stop = found.0 in
     let choice : choice_at p named limit Issue m ≡ finishes stop = found.1 in
     let fit : Fits p m (finishes stop) = subst (λ (c : Choice). Fits p m c) choice (fits p named limit Issue m) in
-    traced_end p limit m (after_letter p named limit Issue m) old new stop end is past fit
+    traced_end p limit m (after_letter p named limit Issue m) old new stop end is past fit.0
     (lives_ended p named limit m stop choice)
     (told_by p named limit Issue m (finishes stop) choice) found.2
     (λ bus. added.text bus ∙ ap (λ (e : End). sheet_text old bus ++ run_end_line e) found.2)

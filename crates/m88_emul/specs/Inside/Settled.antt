@@ -11,7 +11,8 @@ use Rattle.m88_event.specs.Shadow.{retired_pointer}
 use Rattle.m88_event.specs.Timeline.{Moment}
 use Rattle.m88_event.specs.declared.happened.End.{End}
 use Rattle.m88_emul.specs.Aid.{Aid, with_all}
-use Rattle.m88_emul.specs.Extended.{Deed, IsAlone, Work, aided, alone, byte_seen, deed_at, deed_of, extended_state, mends, transactions_before, transacts, work_before}
+use Rattle.m88_emul.specs.Extended.{Deed, IsAlone, aided, alone, byte_seen, deed_at, deed_of, extended_state, transactions_before}
+use Rattle.m88_emul.specs.Inside.Works.{Work, mends, transacts, work_before}
 use Rattle.m88_emul.specs.Timeline.{has_place_in}
 use Rattle.m88_emul.specs.declared.emulation.Emulation.{Emulation}
 
