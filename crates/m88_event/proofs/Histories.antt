@@ -13,7 +13,7 @@ use Rattle.m88_isa.specs.Machine.{Turn, changes, opening, outputs, stops, turn_a
 use Rattle.m88_isa.specs.declared.planned.Access.{Access}
 use Rattle.m88_event.specs.Choice.{Choice, answer_choice, choice_of, evicts, faults, finishes, holds, idles, issue_choice, issues, next_choice, passes, replies, serves, touches_page, turn_choice}
 use Rattle.m88_event.specs.Local.{is_over_by, local_along, move, move_by, situation_of, with_move_counted}
-use Rattle.m88_event.specs.Run.{outcome_by, outcome_along}
+use Rattle.m88_event.specs.Run.{IsFirst, IsRunBy, outcome_by, outcome_along}
 use Rattle.m88_event.specs.Shadow.{retired_pointer}
 use Rattle.m88_event.specs.Situation.{Situation, record_of}
 use Rattle.m88_event.specs.Timeline.{History, Moment, absent_at, after_choice, end_along, end_of_turn, is_over_along, pending_along, situation_along, with_event, xip_along}
@@ -51,6 +51,14 @@ pub over_seen : (h : History) (words : ℕ → ℕ → ℕ → ℕ) (named : ℕ
     is_over_by limit (local_along h words named m) ≡ is_over_along h limit m
 over_seen h words named limit m within =
     ap₂ (λ none ended. none && (ended || m.retired == limit)) (none_left m.done (h.made m.retired) within) (end_seen h m)
+
+pub run_is_seen : (h : History) (words : ℕ → ℕ → ℕ → ℕ) (named : ℕ → Bool) (limit : ℕ) (moments : ℕ → Moment) (events : ℕ) →
+    ((k : ℕ) → (moments k).done ≤ length (h.made (moments k).retired)) →
+    IsFirst (λ k. is_over_along h limit (moments k)) events → IsRunBy limit (λ k. local_along h words named (moments k)) events
+run_is_seen h words named limit moments events within run = record {
+  here = over_seen h words named limit (moments events) (within events) ∙ run.here;
+  first = λ k less. over_seen h words named limit (moments k) (within k) ∙ run.first k less;
+}
 
 pub outcome_is_seen : (h : History) (words : ℕ → ℕ → ℕ → ℕ) (named : ℕ → Bool) (m : Moment) →
     outcome_by (in_words (opening h.program).memory) (local_along h words named m) ≡ outcome_along h m

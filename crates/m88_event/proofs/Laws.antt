@@ -19,8 +19,8 @@ pub use Rattle.m88_event.proofs.Histories.{split_drop}
 -- transactions
 pub use Rattle.m88_event.proofs.Follows.{Fits, fits, more_transactions, stays_within}
 -- Any history: each letter's choice fits its moment; what is seen of a moment moves as the words of memory along the
--- history do; and whether a run is over, and what it comes to, is seen
-pub use Rattle.m88_event.proofs.Histories.{AreWords, FitsAlong, IsStep, choice_seen, fits_along, next_xip, outcome_is_seen, over_seen, situation_seen, supplied}
+-- history do; and when a run is over, and what it comes to, is seen
+pub use Rattle.m88_event.proofs.Histories.{AreWords, FitsAlong, IsStep, choice_seen, fits_along, next_xip, outcome_is_seen, over_seen, run_is_seen, situation_seen, supplied}
 -- Past: what lies behind a moment is so at the opening, at the next moment where it is so at this one, and so at each of a run
 pub use Rattle.m88_event.proofs.Past.{keeps_past, opens_with, past_after}
 -- each letter is one event

@@ -5,7 +5,7 @@ use Rattle.std.specs.Prelude.{ℕ, zero, suc, Bool, true, false, List, ◌≡◌
 use Rattle.m88_isa.specs.Bus.{changed_words, in_words}
 use Rattle.m88_isa.specs.Machine.{Program, opening}
 use Rattle.m88_event.specs.Letters.{letter_at}
-use Rattle.m88_event.specs.Local.{Local}
+use Rattle.m88_event.specs.Local.{Local, is_over_by}
 use Rattle.m88_event.specs.Timeline.{History, Moment, after_letter, end_along, history, is_drained, is_over, opening_moment}
 use Rattle.m88_event.specs.declared.happened.End.TheVariants.{Limit}
 use Rattle.m88_event.specs.declared.letter.Letter.{Letter}
@@ -42,6 +42,11 @@ IsRunning p named limit schedule = NotBefore (λ k. is_over p limit (moment_afte
 -- the run has this many events: it is over then, and not before
 abbrev pub IsRun : Program → (ℕ → Bool) → ℕ → List Letter → ℕ → Type 0
 IsRun p named limit schedule = IsFirst (λ k. is_over p limit (moment_after p named limit schedule k))
+
+-- a run of anything that looks like a board has this many events, by what is seen after each count of them: it is over
+-- then, and not before
+abbrev pub IsRunBy : ℕ → (ℕ → Local) → ℕ → Type 0
+IsRunBy limit seen = IsFirst (λ k. is_over_by limit (seen k))
 
 -- what a run comes to that is over at a moment: the end of the history where the program ended, and else the limit;
 -- registers, carry, output and memory of the history after as many instructions; the counts and records of the moment
