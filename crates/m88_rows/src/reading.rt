@@ -33,6 +33,9 @@ const SIGNS: [(&str, Sign); 10] = [
     ("| ", Sign::Variant),
 ];
 
+/// What stands for the cells of a variant.
+const CELLS: [&str; 9] = ["%1", "%2", "%3", "%4", "%5", "%6", "%7", "%8", "%9"];
+
 /// The length of pieces where a row says none.
 const PIECE: usize = 7;
 
@@ -207,7 +210,7 @@ fn push_variant(alloc: Global, row: &mut Row, line: u64, rest: &str) -> Result<(
     Ok(())
 }
 
-/// Ends a row, if there is one: it must say what is written.
+/// Ends a row, if there is one: it must say what is written, and use each cell.
 fn end_row(row: Option<&mut Row>) -> Result<()> {
     let Some(row) = row else {
         return Ok(());
@@ -215,8 +218,24 @@ fn end_row(row: Option<&mut Row>) -> Result<()> {
     if row.status == Status::Done && row.texts.is_empty() {
         bail!("the row above doesn't say what is written");
     }
+    if let Some(variant) = row.variants.first() {
+        see_cells(row, variant.cells.as_slice())?;
+    }
     if row.pieces.is_empty() {
         row.pieces.push(PIECE)?;
+    }
+    Ok(())
+}
+
+/// Sees that each cell of the variants stands in a line of their row.
+fn see_cells(row: &Row, cells: &[String]) -> Result<()> {
+    if CELLS.len() < cells.len() {
+        bail!("a variant has more than {} cells", CELLS.len());
+    }
+    for (sign, _) in CELLS.iter().zip(cells.iter()) {
+        if !row.has(sign) {
+            bail!("no line of the row above has the cell {sign}");
+        }
     }
     Ok(())
 }

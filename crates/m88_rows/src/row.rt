@@ -56,4 +56,19 @@ impl Row {
             variants: Vec::new(alloc),
         }
     }
+
+    /// Whether a command, the input or a text has this.
+    pub fn has(&self, sign: &str) -> bool {
+        for command in self.commands.as_slice() {
+            if command.words.as_str().contains(sign) {
+                return true;
+            }
+        }
+        for text in self.texts.as_slice() {
+            if text.lines.as_str().contains(sign) {
+                return true;
+            }
+        }
+        self.input.as_str().contains(sign)
+    }
 }
