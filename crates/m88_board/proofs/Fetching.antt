@@ -1,7 +1,9 @@
 -- What the letter `i` comes to, by what is fetched for it.
-use Rattle.std.specs.Prelude.{ℕ, Bool, true, false, not, List, [], ◌∷◌, Option, Some, None, Result, Ok, Err, MatchOption, ◌≡◌, ◌<◌, ◌%◌, ◌^◌, ◌&&◌, if◌then◌else◌, is_none}
+use Rattle.std.specs.Prelude.{ℕ, Bool, true, false, not, List, [], ◌∷◌, Option, Some, None, Result, Ok, Err, MatchOption, ◌≡◌, ◌<◌, ◌%◌, ◌^◌, ◌&&◌, bit_or, if◌then◌else◌, is_none}
 use Rattle.std.specs.Int.{to_be_bytes, w32}
 use Rattle.m88_codec.proofs.Laws.{one_reading}
+use Rattle.m88_isa.specs.Address.{after_bytes}
+use Rattle.m88_isa.specs.Operands.{uses_of, writes_of}
 use Rattle.m88_mem.specs.Lines.{IsLine}
 use Rattle.m88_mem.specs.declared.lines.Line.{Line}
 use Rattle.std.proofs.Common.{arith, inl, inr, refl, sym, ap, ap₂, ◌∙◌, subst}
@@ -25,7 +27,7 @@ use Rattle.m88_iunit.specs.Pointers.{word_behind}
 use Rattle.m88_board.specs.Board.{BoardView, completed_of, is_idle_board, local_of, pc_of}
 use Rattle.m88_board.specs.Kept.{IsKept, SlotsAgree, lacks_word}
 use Rattle.m88_board.proofs.Choosing.{at_pc}
-use Rattle.m88_board.specs.Inside.NoInstruction.{HasNoInstruction, IsFoundAt, IsFoundNext}
+use Rattle.m88_board.specs.Inside.NoInstruction.{HasNoInstruction, IsFoundAt, IsFoundNext, IsReadAt}
 use Rattle.m88_board.specs.Inside.Turns.{HasTurn, IsDue, IssueComesTo, choice_for, stopping}
 
 -- no more may be issued
@@ -243,3 +245,21 @@ turn_found line b found small = record {
 pub raise_found : (vector : ℕ) (b : BoardView) → IsFoundNext (Err vector) b →
     IssueComesTo (stopping (by_vector vector (pc_of b.slots)) b.pending) b
 raise_found vector b found = vector_by b vector found.due found.aligned found.found_there
+
+-- the line that would be kept of what was read
+abbrev pub line_read : ProgramImage → ℕ → ℕ × Instr → Line
+line_read image addr read = record {
+  addr = addr;
+  word = read.0;
+  instr = read.1;
+  involved = bit_or (uses_of read.1) (writes_of read.1);
+  lacks_behind = is_none (four_bytes (byte_at image) (after_bytes addr 4));
+}
+
+-- what was read is found there
+pub read_found : (image : ProgramImage) (addr : ℕ) (read : ℕ × Instr) → addr % 4 ≡ 0 → IsReadAt image addr (Ok read) →
+    IsFoundAt image addr (Ok (line_read image addr read))
+read_found image addr read aligned is = (
+  refl,
+  record { aligned = aligned; word = is.0.1; instruction = is.1; involved = refl; behind = refl },
+)

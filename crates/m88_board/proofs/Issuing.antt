@@ -48,7 +48,7 @@ choice_meant i b m =
     (carried_out m (completed_of b).regs (completed_of b).pc)
 
 -- its choice is that of its meaning
-by_meaning : (i : Instr) (b : BoardView) (m : Meaning) → meaning_at i (completed_of b) ≡ m →
+pub by_meaning : (i : Instr) (b : BoardView) (m : Meaning) → meaning_at i (completed_of b) ≡ m →
     choice_for (Some i) b ≡ choice_meant i b m
 by_meaning i b m means = ap (choice_meant i b) means
 
@@ -123,7 +123,7 @@ pub record GoesOn (m : Meaning) (effect : Effect) : Type 0 where
   pub same : effect ≡ recorded_change change
 
 -- and one with a plan that goes on does
-go_is : (m : Meaning) (effect : Effect) → Go effect ≡ plan_for m → GoesOn m effect
+pub go_is : (m : Meaning) (effect : Effect) → Go effect ≡ plan_for m → GoesOn m effect
 go_is (raises v) effect h = absurd cc
 go_is (traps v) effect h = absurd cc
 go_is (goes change) effect h = record { change = change; means = refl; same = cc }

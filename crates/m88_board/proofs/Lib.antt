@@ -42,5 +42,6 @@ pub mod Briefly
 pub mod CameTo
 pub mod Telling
 pub mod Brought
+pub mod Handing
 pub mod Happening
 pub mod Laws

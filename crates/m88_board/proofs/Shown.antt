@@ -106,7 +106,7 @@ value_stays xs c r h = by_test (r == 0)
     (zero_stays xs c))
     (λ there. same_after_accesses xs c r there h)
 
-value_seen : (b : BoardView) (r : ℕ) → waits_for b.pending r ≡ false →
+pub value_seen : (b : BoardView) (r : ℕ) → waits_for b.pending r ≡ false →
     slice_index b.file.numbers r ≡ slice_index (completed_of b).regs r
 unfolding completed_of
 value_seen b r h = sym (value_stays b.pending (cells_in b.file b.memory) r h)

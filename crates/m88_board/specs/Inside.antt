@@ -6,3 +6,4 @@ pub mod Events
 pub mod Accesses
 pub mod Routes
 pub mod Books
+pub mod Going

@@ -1,5 +1,5 @@
--- What contracts cite: the board and its parts, what a walk along a run and its calls come to, what is kept and told;
--- Inside is for private contracts.
+-- What contracts cite: the board and its parts, what it hands over, what a walk along a run and its calls come to, what
+-- is kept and told; Inside is for private contracts.
 pub mod Board
 pub mod Kept
 pub mod Glances
@@ -9,5 +9,6 @@ pub mod Told
 pub mod Walks
 pub mod Calls
 pub mod Parts
+pub mod Handed
 pub mod Contexts
 pub mod Inside

@@ -1,11 +1,12 @@
--- The parts of a board whose program has ended, and the board that begins from parts.
-use Rattle.std.specs.Prelude.{ℕ, Bool, false, [], Option, Some, None, IfSome, ◌≡◌, ◌≤◌, ◌+◌, ◌*◌, ◌%◌, ◌==◌, length, slice_index, if◌then◌else◌}
+-- The parts of a board, and the board that goes on from parts.
+use Rattle.std.specs.Prelude.{ℕ, Bool, true, false, List, [], Option, Some, None, IfSome, ◌≡◌, ◌≤◌, ◌+◌, ◌*◌, ◌%◌, ◌==◌, is_some, length, slice_index, if◌then◌else◌}
 use Rattle.m88_base.specs.Slot.{no_slot, slot_word}
 use Rattle.m88_base.specs.declared.slot.Slot.{Slot}
 use Rattle.m88_ctrl.specs.ControlRegisters.{ControlRegisters, at_start, carry_of, with_carry}
 use Rattle.m88_event.specs.Local.{Local}
 use Rattle.m88_event.specs.Shadow.{retired_pointer}
 use Rattle.m88_mem.specs.DataBus.{absent_of, bus_of}
+use Rattle.m88_isa.specs.Address.{after_bytes}
 use Rattle.m88_board.specs.Board.{BoardView, next_of, pc_of}
 use Rattle.m88_board.specs.Kept.{most_events, most_retired}
 use Rattle.m88_board.specs.declared.parts.Parts.{Parts}
@@ -36,6 +37,10 @@ parts_of b = record {
   records = b.records;
 }
 
+-- the same with these registers
+abbrev pub parts_with : List ℕ → BoardView → Parts
+parts_with regs b = record (parts_of b) { regs = regs }
+
 -- a byte address is that of a word
 abbrev pub IsAtWord : ℕ → Type 0
 IsAtWord address = address % 4 ≡ 0
@@ -56,9 +61,20 @@ pub record MayBegin (parts : Parts) (limit : ℕ) : Type 0 where
   pub told : parts.answers + length parts.records ≤ parts.done
   pub put_out : length parts.out ≤ parts.retired
 
--- the control registers of the board that begins from parts: those at the start, with MXM clear and the carry
+-- a board may go on from parts behind a bubble: an instruction was retired, which is XIP, and the next two follow one
+-- another
+pub record MayPass (parts : Parts) : Type 0 where
+  pub some : 1 ≤ parts.retired
+  pub last : is_some parts.last ≡ true
+  pub straight : parts.next ≡ after_bytes parts.pc 4
+
+-- the control registers of the board that goes on from parts with this MXM and this carry: else those at the start
+abbrev pub control_at : Bool → Bool → ControlRegisters
+control_at mxm carry = record (at_start mxm) { psr = with_carry carry (at_start mxm).psr }
+
+-- the same of the board that begins from parts: MXM is clear
 abbrev pub begun_control : Bool → ControlRegisters
-begun_control carry = record (at_start false) { psr = with_carry carry (at_start false).psr }
+begun_control carry = control_at false carry
 
 -- what is seen of the board that begins from parts: nothing is pending, no mark is set, and MXM is clear
 unfoldable pub seen_of_parts : Parts → Local
@@ -83,4 +99,11 @@ seen_of_parts parts = record {
   events = parts.events;
   answers = parts.answers;
   records = parts.records;
+}
+
+-- the same of the board that goes on from parts with this MXM, behind a bubble or not
+abbrev pub seen_at : Bool → Bool → Parts → Local
+seen_at mxm bubble parts = record (seen_of_parts parts) {
+  completed = record (seen_of_parts parts).completed { mxm = mxm };
+  bubble = bubble;
 }

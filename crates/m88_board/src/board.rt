@@ -45,6 +45,7 @@ use std::marker::Model;
 
 mod begin;
 mod event;
+mod handing;
 mod interrupt;
 mod issue;
 mod reading;

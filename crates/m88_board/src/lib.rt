@@ -3,7 +3,8 @@
 //! `event` makes the event of a letter, and a `Walk` those of the letters of a run, one by one or until it is to stop;
 //! `run` is a walk to the end of a run, and `drain` makes the events that leave nothing pending. A `Watch` is shown the
 //! board after each event of these, and `Walk::next_told` tells what the instruction does that goes on. `into_parts`
-//! takes a board whose program has ended into its `Parts`, and `Board::begin` makes a board that goes on from parts.
+//! takes a board whose program has ended into its `Parts`, `into_fault` one that meets a data fault, and
+//! `into_parts_midway` one between two instructions; `Board::begin` and `resume` make a board that goes on from parts.
 //! All else tells what the board shows.
 #![tactic(auto)]
 

@@ -1,10 +1,17 @@
 //! The parts of a board.
 
-use m88_base::Listed;
-use m88_event::Record;
+ghost use Rattle.std.specs.Prelude.{◌≡◌, Some, IfOk};
+ghost use Rattle.m88_event.specs.Run.{outcome_by};
+ghost use Rattle.m88_mem.specs.DataBus.{image_bus};
+ghost use Rattle.m88_board.specs.Inside.Going.{book_from};
+ghost use Rattle.m88_board.specs.Parts.{seen_of_parts};
+
+use crate::book::Book;
+use m88_base::{Absent, Listed, NoMemory};
+use m88_event::{End, Outcome, Record};
 use m88_mem::Memory;
 
-/// The parts of a board with nothing pending, from which another may begin (`Board::into_parts`, `Board::begin`).
+/// The parts of a board with nothing pending, from which another may go on (`Board::into_parts`, `Board::resume`).
 /// Software that does for a program what the chip leaves to it changes them in between.
 #[derive(Debug, Drop)]
 pub struct Parts {
@@ -32,4 +39,37 @@ pub struct Parts {
     pub out: Listed<u8>,
     /// A record for each data fault, in order.
     pub records: Listed<Record>,
+}
+
+impl Parts {
+    /// What a run came to that ends here, by an end that need not be its program's: software stops it. Where memory
+    /// runs out, the parts are gone.
+    pub fn outcome(self, end: End) -> Result<Outcome, NoMemory>
+        ensures { IfOk result (λ o. o ≡ outcome_by (image_bus self.memory.image)
+            (record (seen_of_parts self) { ended = Some end })) }
+    {
+        let regs = self.regs;
+        let carry = self.carry;
+        let limit = self.retired;
+        let (memory, book) = self.into_book(limit, Some(end));
+        book.into_outcome(regs, carry, &memory)
+    }
+
+    /// The memory, and the book with a limit and how the program ended, if it has.
+    pub(crate) fn into_book(self, limit: u32, end: Option<End>) -> (Memory, Book)
+        ensures { result ≡ (self.memory, book_from self limit end) }
+    {
+        let book = Book {
+            absent: Absent::None,
+            limit,
+            retired: self.retired,
+            done: self.done,
+            events: self.events,
+            answers: self.answers,
+            end,
+            out: self.out,
+            records: self.records,
+        };
+        (self.memory, book)
+    }
 }

@@ -3,11 +3,27 @@
 ghost use Rattle.std.specs.Prelude.{◌≡◌, ◌%◌, true, false};
 ghost use Rattle.m88_isa.specs.Address.{after_bytes};
 ghost use Rattle.m88_isa.specs.Flow.{FlowFits};
+ghost use Rattle.m88_board.specs.Board.{next_of, pc_of};
 ghost use Rattle.m88_board.specs.Kept.{SlotsAgree, lacks_word};
+ghost use Rattle.m88_board.specs.Parts.{IsAtWord};
 ghost use Rattle.m88_board.specs.Inside.Turns.{IsAdvanced};
 
 use m88_iunit::InstrUnit;
 use m88_mem::Memory;
+
+/// The byte addresses of the next instruction that isn't passed over and of the one that follows it.
+pub(crate) fn next_two(iunit: &InstrUnit) -> (u32, u32)
+    ensures value { result ≡ (pc_of iunit.now, next_of iunit.now) }
+    ensures words { IsAtWord result.0 × IsAtWord result.1 }
+{
+    let nip = iunit.candidate();
+    let fip = iunit.following();
+    if nip.v {
+        (nip.addr, fip.addr)
+    } else {
+        (fip.addr, fip.addr.wrapping_add(4))
+    }
+}
 
 /// Whether the image lacks one of the four bytes at an address.
 pub(crate) fn lacks_word(memory: &Memory, addr: u32) -> bool

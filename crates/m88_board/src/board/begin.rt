@@ -1,20 +1,26 @@
-//! A board taken into its parts, and one that begins from parts.
+//! A board taken into its parts, and one that goes on from parts.
 
-ghost use Rattle.std.specs.Prelude.{◌≡◌, ◌<◌, None, true, false, is_some, IfSome};
-ghost use Rattle.m88_base.specs.Slot.{IsWordSlot, slot_word, valid_slot};
+ghost use Rattle.std.specs.Prelude.{ℕ, Bool, [], ◌≡◌, ◌<◌, None, not, true, false, is_some, slice_index, IfSome};
+ghost use Rattle.m88_base.specs.Slot.{IsWordSlot, slot_word, squashed_slot, valid_slot};
 ghost use Rattle.m88_base.specs.declared.absent.Absent.{Absent as AbsentValue};
 ghost use Rattle.m88_ctrl.specs.ControlRegisters.{mxm_of};
-ghost use Rattle.m88_board.specs.Board.{local_of};
-ghost use Rattle.m88_board.specs.Parts.{IsAtWord, MayBegin, begun_control, last_of, parts_of, seen_of_parts, xip_of};
+ghost use Rattle.m88_iunit.specs.Pointers.{word_behind};
+ghost use Rattle.m88_mem.specs.DataBus.{bus_of};
+ghost use Rattle.m88_scoreboard.specs.Registers.{shown_at};
+ghost use Rattle.m88_board.specs.Board.{completed_of, local_of};
+ghost use Rattle.m88_board.specs.Handed.{IsMidway};
+ghost use Rattle.m88_board.specs.Kept.{IsKept, lacks_word};
+ghost use Rattle.m88_board.specs.Parts.{IsAtWord, MayBegin, MayPass, begun_control, control_at, last_of, parts_of, parts_with, seen_at, seen_of_parts, xip_of};
+ghost use Rattle.m88_board.specs.Inside.Going.{slots_from};
 
 use super::Board;
-use crate::book::Book;
 use crate::parts::Parts;
-use crate::slots::lacks_word;
-use m88_base::{Absent, Slot};
+use crate::slots::{lacks_word, next_two};
+use m88_base::Slot;
 use m88_ctrl::Control;
 use m88_dunit::DataUnit;
 use m88_iunit::InstrUnit;
+use m88_mem::Memory;
 use m88_scoreboard::RegFile;
 
 impl Board {
@@ -27,19 +33,52 @@ impl Board {
         ensures early { result.retired < self.limit }
         ensures seen { mxm_of self.control ≡ false
             → seen_of_parts result ≡ record (local_of self) { ended = None } }
+        ensures mode { seen_at (mxm_of self.control) false result
+            ≡ record (local_of self) { ended = None } }
+    {
+        self.take_apart()
+    }
+
+    /// The parts of a board that stands between two instructions: its program hasn't ended, nothing is pending, and the
+    /// next instruction isn't passed over. It takes no memory.
+    pub fn into_parts_midway(self) -> Parts
+        requires { IsMidway self }
+        ensures parts { result ≡ parts_of self }
+        ensures begins { MayBegin result self.limit }
+        ensures seen { seen_at (mxm_of self.control) false result ≡ local_of self }
+    {
+        self.take_apart()
+    }
+
+    /// The parts of a board as it stands, in which a register that waits is 0.
+    pub(super) fn take_apart(self) -> Parts
+        ensures parts { result ≡ parts_with result.regs self }
+        ensures found { (r : ℕ) → r < 32 → slice_index result.regs r ≡ shown_at self.file r }
+        ensures whole { self.pending ≡ [] → result ≡ parts_of self }
+        ensures begins { MayBegin result self.limit }
+        ensures passes { self.slots.nip.v ≡ false → MayPass result }
+        ensures seen { seen_at (mxm_of self.control) (not self.slots.nip.v) result
+            ≡ record (local_of self) {
+              completed = record (completed_of self) {
+                regs = result.regs;
+                bus = bus_of self.memory;
+              };
+              pending = [];
+              ended = None;
+            } }
+        ensures kept { IsKept self }
     {
         let (sxip, _, _) = self.iunit.shadow();
         let xip = self.iunit.xip();
-        let nip = self.iunit.candidate();
-        let fip = self.iunit.following();
+        let (pc, next) = next_two(&self.iunit);
         let regs = self.regs.values();
         let book = self.book;
         Parts {
             memory: self.memory,
             regs,
             carry: self.ctrl.carry(),
-            pc: nip.addr,
-            next: fip.addr,
+            pc,
+            next,
             last: last_of(sxip, xip),
             retired: book.retired,
             done: book.done,
@@ -63,35 +102,37 @@ impl Board {
         ensures events { result.events ≡ parts.events }
         ensures begun { result.begun ≡ true }
     {
+        Board::resume(parts, limit, false, false)
+    }
+
+    /// A board that goes on from parts, as `begin` has it, where MXM of its PSR is `mxm`. With `bubble` the word behind
+    /// the instruction that was retired last is passed over before the next one. It takes no memory.
+    pub fn resume(parts: Parts, limit: u32, mxm: bool, bubble: bool) -> Board
+        requires begins { MayBegin parts limit }
+        requires passes { bubble ≡ true → MayPass parts }
+        ensures seen { local_of result ≡ seen_at mxm bubble parts }
+        ensures limit { result.limit ≡ limit }
+        ensures named { result.named ≡ AbsentValue.None }
+        ensures memory { result.memory ≡ parts.memory }
+        ensures control { result.control ≡ control_at mxm parts.carry }
+        ensures events { result.events ≡ parts.events }
+        ensures begun { result.begun ≡ true }
+    {
         // What always holds of an image is told with its parts.
         let image = parts.memory.image();
         prove!(image.part_count() <= image.len());
-        let mut ctrl = Control::new(false);
+        let mut ctrl = Control::new(mxm);
         ctrl.set_carry(parts.carry);
-        let lacks = lacks_word(&parts.memory, parts.pc);
-        let lacks_next = lacks_word(&parts.memory, parts.next);
-        let xip = pointer_of(parts.last);
+        let iunit = pointers_of(&parts, bubble);
+        let regs = RegFile::of(parts.regs);
+        let (memory, book) = parts.into_book(limit, None);
         Board {
-            iunit: InstrUnit::at(
-                xip,
-                fetched(parts.pc, lacks),
-                fetched(parts.next, lacks_next),
-            ),
+            iunit,
             dunit: DataUnit::new(),
-            regs: RegFile::of(parts.regs),
-            memory: parts.memory,
+            regs,
+            memory,
             ctrl,
-            book: Book {
-                absent: Absent::None,
-                limit,
-                retired: parts.retired,
-                done: parts.done,
-                events: parts.events,
-                answers: parts.answers,
-                end: None,
-                out: parts.out,
-                records: parts.records,
-            },
+            book,
             begun: true,
         }
     }
@@ -103,6 +144,22 @@ fn last_of(sxip: u32, xip: Slot) -> Option<u32>
     ensures { result ≡ last_of xip }
 {
     if sxip == 0 { None } else { Some(xip.addr) }
+}
+
+/// The instruction pointers of a board that goes on from parts.
+fn pointers_of(parts: &Parts, bubble: bool) -> InstrUnit
+    requires pc { IsAtWord parts.now.pc }
+    requires next { IsAtWord parts.now.next }
+    requires last { IfSome parts.now.last IsAtWord }
+    ensures { result ≡ slots_from parts.now bubble }
+{
+    let xip = pointer_of(parts.last);
+    let first = fetched(&parts.memory, parts.pc);
+    if bubble {
+        return InstrUnit::at(xip, passed(xip.addr.wrapping_add(4)), first);
+    }
+    let second = fetched(&parts.memory, parts.next);
+    InstrUnit::at(xip, first, second)
 }
 
 /// XIP of the instruction that was retired last.
@@ -125,9 +182,25 @@ fn pointer_of(last: Option<u32>) -> Slot
     }
 }
 
-/// An instruction that is to be issued; `e` says that it can't be fetched.
-fn fetched(addr: u32, e: bool) -> Slot
-    ensures { result ≡ valid_slot addr e }
+/// The instruction at the byte address of a word, which is to be issued.
+fn fetched(memory: &Memory, addr: u32) -> Slot
+    requires { IsAtWord addr }
+    ensures { result ≡ valid_slot addr (lacks_word memory.now.image addr) }
 {
-    Slot { addr, v: true, e }
+    Slot {
+        addr,
+        v: true,
+        e: lacks_word(memory, addr),
+    }
+}
+
+/// An instruction that is passed over.
+fn passed(addr: u32) -> Slot
+    ensures { result ≡ squashed_slot addr }
+{
+    Slot {
+        addr,
+        v: false,
+        e: false,
+    }
 }

@@ -7,10 +7,10 @@ ghost use Rattle.m88_isa.specs.Held.{busy_register, is_pending, most_pending};
 ghost use Rattle.m88_isa.specs.Instr.{IsValid};
 ghost use Rattle.m88_isa.specs.Memory.{recorded};
 ghost use Rattle.m88_isa.specs.Operands.{waits_for_empty};
-ghost use Rattle.m88_isa.specs.declared.planned.Outline.TheVariants.{Memory};
+ghost use Rattle.m88_isa.specs.declared.planned.Outline.TheVariants.{Memory as MemoryValue};
 ghost use Rattle.m88_mem.specs.Lines.{HasInvolved};
 ghost use Rattle.m88_board.specs.Inside.Events.{Brings, BringsOrStays, TellsInstruction, TellsPlan};
-ghost use Rattle.m88_board.specs.Inside.NoInstruction.{IsFoundAt, IsFoundNext};
+ghost use Rattle.m88_board.specs.Inside.NoInstruction.{IsFoundAt, IsFoundNext, IsReadAt};
 ghost use Rattle.m88_board.specs.Inside.Turns.{HasTurn, IsDue, IsPlanOf, IsPlanned, planned_by};
 
 use crate::accesses::{prepare, put_in, write};
@@ -25,7 +25,7 @@ use m88_isa::{
     Effect, INSTRUCTION_ACCESS, Instr, MemOp, Outline, UNIMPLEMENTED, accesses_at, no_accesses,
     outline, waits_for_empty,
 };
-use m88_mem::Line;
+use m88_mem::{Line, Memory};
 
 impl Board {
     /// The letter `i`: nothing where no more may be issued, a bubble is passed over, or the next instruction has its
@@ -73,13 +73,13 @@ impl Board {
         if let Some(line) = self.memory.line(addr) {
             return Ok(line);
         }
-        let Some(word) = self.memory.fetch(addr) else {
-            return Err(INSTRUCTION_ACCESS);
-        };
-        let Ok(instr) = decode(word) else {
-            return Err(UNIMPLEMENTED);
-        };
-        Ok(self.memory.keep(addr, word, instr))
+        match read_at(&self.memory, addr) {
+            Ok(read) => {
+                let (word, instr) = read;
+                Ok(self.memory.keep(addr, word, instr))
+            }
+            Err(vector) => Err(vector),
+        }
     }
 
     /// The next instruction in its turn: a register that it uses or writes and that waits holds it, or none does.
@@ -157,7 +157,7 @@ impl Board {
     ) -> Result<Brief, NoMemory>
         requires turn { HasTurn instr.now self.old }
         requires free { busy_register (Some instr.now) self.old.pending ≡ None }
-        requires plan { IsPlanOf instr.now (planned_by (Memory op d place) self.old) self.old }
+        requires plan { IsPlanOf instr.now (planned_by (MemoryValue op d place) self.old) self.old }
         ensures brings { BringsOrStays LetterValue.Issue self.old result self.new }
         ensures tells { TellsPlan self.old told.old told.new }
     {
@@ -181,7 +181,7 @@ impl Board {
     fn effect_at(&self, instr: &Instr, op: MemOp, d: Reg, place: u32) -> Effect
         requires turn { HasTurn instr.now self.now }
         requires free { busy_register (Some instr.now) self.now.pending ≡ None }
-        requires plan { IsPlanOf instr.now (planned_by (Memory op d place) self.now) self.now }
+        requires plan { IsPlanOf instr.now (planned_by (MemoryValue op d place) self.now) self.now }
         ensures planned { IsPlanned instr.now result self.now }
         ensures reg { result.reg ≡ None }
         ensures carry { result.carry ≡ carry_of self.now.control }
@@ -216,7 +216,7 @@ impl Board {
     /// What the next instruction does, where no register that it uses or writes waits.
     // Inlined, so that what an outline tells stays in registers.
     #[inline(always)]
-    fn outline_next(&self, instr: &Instr) -> Outline
+    pub(super) fn outline_next(&self, instr: &Instr) -> Outline
         requires turn { HasTurn instr.now self.now }
         requires free { busy_register (Some instr.now) self.now.pending ≡ None }
         ensures { IsPlanOf instr.now (planned_by result self.now) self.now }
@@ -230,6 +230,21 @@ impl Board {
             self.iunit.following().addr,
         )
     }
+}
+
+/// The word and the instruction that an image has at the byte address of a word, or the vector that is raised where
+/// there is none.
+pub(super) fn read_at(memory: &Memory, addr: u32) -> Result<(u32, Instr), u16>
+    requires { addr % 4 ≡ 0 }
+    ensures { IsReadAt memory.now.image addr result }
+{
+    let Some(word) = memory.fetch(addr) else {
+        return Err(INSTRUCTION_ACCESS);
+    };
+    let Ok(instr) = decode(word) else {
+        return Err(UNIMPLEMENTED);
+    };
+    Ok((word, instr))
 }
 
 /// Changes without an access.
