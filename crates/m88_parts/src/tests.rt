@@ -12,6 +12,7 @@ mod emulation;
 mod instructions;
 
 // whole runs
+mod handing;
 mod paging;
 mod report;
 mod sharing;

@@ -21,6 +21,11 @@ fn expect_read(rt: &impl Abort, memory: &Memory, addr: u32, wanted: Result<u32, 
     assert!(rt; read(memory, addr / 4 * 4) == wanted, "{addr:08X}");
 }
 
+/// The page of 0x5000 is absent, or present.
+fn set_absent(memory: &mut Memory, absent: bool) {
+    memory.set_absent(5, absent);
+}
+
 /// Supplies the page of 0x5000.
 fn supply(memory: &mut Memory) {
     memory.supply(5);
@@ -36,6 +41,10 @@ fn absent_pages_are_not_read(rt: HostRuntime) -> Result<(), NoMemory> {
     expect_read(&rt, &memory, 0x6000, Err(AbsentPage));
     memory.evict_all();
     expect_read(&rt, &memory, 0x5000, Err(AbsentPage));
+    for absent in [true, false, true] {
+        set_absent(&mut memory, absent);
+        assert!(rt; read(&memory, 0x5000).is_err() == absent);
+    }
     Ok(())
 }
 

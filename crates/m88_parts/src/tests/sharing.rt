@@ -9,7 +9,7 @@ use std::alloc::Global;
 use std::process::Abort;
 
 /// An image with words from 0x1000 on.
-fn image_of(alloc: Global, words: &[u32]) -> Result<Image, NoMemory> {
+pub(super) fn image_of(alloc: Global, words: &[u32]) -> Result<Image, NoMemory> {
     let mut image = Image::new(alloc);
     for word in words {
         let end = 0x1000 + image.len() as u32;
