@@ -1,5 +1,5 @@
 -- The record that a data fault leaves at a moment has no fault, and its lines tell it.
-use Rattle.std.specs.Prelude.{ℕ, Bool, true, false, not, List, [], ◌∷◌, ◌++◌, ◌≡◌, ◌≤◌, ◌%◌, ◌==◌, ◌&&◌, All, None, Result, Ok, codes, flat_map, length, map}
+use Rattle.std.specs.Prelude.{ℕ, zero, suc, Bool, true, false, not, IfSome, Option, Some, slice_get, slice_index_or, List, [], ◌∷◌, ◌++◌, ◌≡◌, ◌≤◌, ◌%◌, ◌==◌, ◌&&◌, All, None, Result, Ok, codes, flat_map, length, map}
 use Rattle.std.specs.List.{enumerate_from}
 use Rattle.std.specs.Option.{option_or}
 use Rattle.std.proofs.Common.{refl, sym, ap, ◌∙◌, arith, subst}
@@ -21,17 +21,18 @@ use Rattle.m88_isa.proofs.Laws.{by_test, told_of, valid_of}
 use Rattle.m88_isa.specs.Bus.{waits_for}
 use Rattle.m88_isa.specs.History.{bus_at, pending_at, transactions}
 use Rattle.m88_isa.specs.Machine.{Program, state}
-use Rattle.m88_isa.specs.Triples.{access_in, accesses_in, dmt_of, is_valid_triple, triple_of, triples_of}
+use Rattle.m88_isa.specs.Triples.{access_in, accesses_in, dmt_of, is_valid_triple, triple_of, triple_or_none, triples_of}
 use Rattle.m88_isa.specs.declared.planned.Access.{Access}
 use Rattle.m88_report.specs.Report.{status_line, triple_line, word_line}
+use Rattle.m88_serving.proofs.Alike.{Agrees, same_text}
 use Rattle.m88_serving.proofs.Readback.{case_read, fault_lines, status_of_record, status_read, status_text, triple_read, triple_text, word_text, words_read}
 use Rattle.m88_serving.proofs.Touched.{IsCalled, transactions_told}
 use Rattle.m88_serving.proofs.Verdicts.{accepted}
 use Rattle.m88_serving.specs.Cases.{Case, case_in, record_with}
 use Rattle.m88_serving.specs.Faults.{at_first, fault_of_kind, first_behind, first_line, has_datum, has_odd_access, has_odd_address, is_dmt, is_status, is_unempty, awaited_set, record_fault, triple_of_record}
-use Rattle.m88_serving.specs.Laws.{AreWordsOf, EachFaultIsServed, IsRecordOfWords, IsTripleOfWords, shown_fault}
+use Rattle.m88_serving.specs.Laws.{AreWordsAt, EachFaultIsServed, IsRecordOfWords, IsTripleOfWords, shown_fault}
 use Rattle.m88_serving.specs.Served.{IsServed, served_text}
-use Rattle.m88_serving.specs.Serving.{serving_with}
+use Rattle.m88_serving.specs.Serving.{named_bus, serving_with}
 use Rattle.m88_serving.specs.declared.fault.ServeKind.TheVariants as kind
 
 -- a transaction without a fault
@@ -147,12 +148,33 @@ again r none = none
 abbrev case_of_fault : List (ℕ × ℕ) → Record → Result Case ℕ
 case_of_fault words fault = Ok (record { fault = fault; words = words })
 
-served : (r : Record) (t0 t1 t2 : Triple) (bus : ℕ → ℕ) (words : List (ℕ × ℕ)) → r.triples ≡ t0 ∷ t1 ∷ t2 ∷ [] → record_fault r ≡ None
-    → IsRecordOfWords r → AreWordsOf bus words → IsServed (shown_fault r words) (served_text (serving_with r bus))
-served r t0 t1 t2 bus words are none small shown =
+-- the words agree with memory at the transactions of the record
+agrees_at : (words : List (ℕ × ℕ)) (bus : ℕ → ℕ) (o : Option Access) → IfSome o IsCalled → IfSome o (λ a. named_bus words a.addr ≡ bus a.addr)
+    → Agrees bus (named_bus words) (triple_or_none o)
+agrees_at words bus None called same = record { aligned = λ v. absurd cc; same = λ v. absurd cc }
+agrees_at words bus (Some a) called same = record { aligned = λ v. called.made.0; same = λ v. sym same }
+
+at_place : (P : Access → Type 0) (xs : List Access) (k : ℕ) → All P xs → IfSome (slice_get xs k) P
+at_place P [] k h = tt
+at_place P (x ∷ xs) zero h = All-head P x xs h
+at_place P (x ∷ xs) (suc k) h = at_place P xs k (All-tail P x xs h)
+
+agrees : (words : List (ℕ × ℕ)) (bus : ℕ → ℕ) (xs : List Access) (k : ℕ) → All IsCalled xs → All (λ (a : Access). named_bus words a.addr ≡ bus a.addr) xs
+    → Agrees bus (named_bus words) (triple_or_none (slice_get xs k))
+agrees words bus xs k called same =
+    agrees_at words bus (slice_get xs k) (at_place IsCalled xs k called) (at_place (λ (a : Access). named_bus words a.addr ≡ bus a.addr) xs k same)
+
+served : (r : Record) (xs : List Access) (bus : ℕ → ℕ) (words : List (ℕ × ℕ)) → r.triples ≡ triples_of xs → record_fault r ≡ None
+    → IsRecordOfWords r → All IsCalled xs → AreWordsAt xs bus words → IsServed (shown_fault r words) (served_text (serving_with r bus))
+served r xs bus words are none small called shown =
+    let t0 : Triple = triple_or_none (slice_get xs 0) in
+    let t1 : Triple = triple_or_none (slice_get xs 1) in
+    let t2 : Triple = triple_or_none (slice_get xs 2) in
     let triples : All IsTripleOfWords (t0 ∷ t1 ∷ t2 ∷ []) = subst (All IsTripleOfWords) are small.triples in
     let rest : All IsTripleOfWords (t1 ∷ t2 ∷ []) = All-tail IsTripleOfWords t0 (t1 ∷ t2 ∷ []) triples in
     let told : Case = record { fault = record r { event = 0 }; words = words } in
+    let place : (k : ℕ) → slice_index_or (triples_of xs) k no_triple ≡ slice_index_or r.triples k no_triple =
+    λ k. ap (λ (ts : List Triple). slice_index_or ts k no_triple) (sym are) in
     record {
       told = told;
       accepted = accepted (shown_fault r words) told
@@ -166,14 +188,16 @@ served r t0 t1 t2 bus words are none small shown =
           (words_read 5 words shown.shown)
           ∙ ap (case_of_fault words) (told_again r t0 t1 t2 are))
           (again r none) shown.once;
-      is_text = ap (λ b. served_text (serving_with r b)) (sym shown.all);
+      is_text = sym (same_text (serving_with r bus) (named_bus words)
+          (subst (Agrees bus (named_bus words)) (place 0) (agrees words bus xs 0 called shown.agree))
+          (subst (Agrees bus (named_bus words)) (place 1) (agrees words bus xs 1 called shown.agree))
+          (subst (Agrees bus (named_bus words)) (place 2) (agrees words bus xs 2 called shown.agree)));
     }
 
 pub each_fault_is_served : EachFaultIsServed
 unfolding record_of situation_at
 each_fault_is_served = λ p named limit schedule k words small shown.
     let m : Moment = moment_after p named limit schedule k in
-    let r : Record = record_at p named limit m in
-    served r (triple_of_record 0 r) (triple_of_record 1 r) (triple_of_record 2 r) (bus_at p m.retired m.done) words refl
-    (sound_record p named limit m (past_after p named limit schedule k))
-    small shown
+    served (record_at p named limit m) (pending_at p m.retired m.done) (bus_at p m.retired m.done) words refl
+    (sound_record p named limit m (past_after p named limit schedule k)) small
+    (All-drop IsCalled m.done (transactions p m.retired) (transactions_told p m.retired)) shown

@@ -11,4 +11,5 @@ pub mod Dmts
 pub mod Emptied
 pub mod Readback
 pub mod Touched
+pub mod Alike
 pub mod Faulted

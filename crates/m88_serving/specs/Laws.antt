@@ -6,11 +6,12 @@ use Rattle.m88_event.specs.Run.{moment_after}
 use Rattle.m88_event.specs.Timeline.{Moment, record_at}
 use Rattle.m88_event.specs.declared.letter.Letter.{Letter}
 use Rattle.m88_event.specs.declared.record.Record.{Record}
-use Rattle.m88_isa.specs.History.{bus_at}
+use Rattle.m88_isa.specs.History.{bus_at, pending_at}
 use Rattle.m88_isa.specs.Machine.{Program}
 use Rattle.m88_isa.specs.Memory.{Touch, access_of, touches_of}
 use Rattle.m88_isa.specs.Triples.{dmt_of}
 use Rattle.m88_isa.specs.declared.instr.MemOp.{MemOp}
+use Rattle.m88_isa.specs.declared.planned.Access.{Access}
 use Rattle.m88_monitor.specs.Serving.{after_service}
 use Rattle.m88_serving.specs.Cases.{Case}
 use Rattle.m88_report.specs.Report.{record_lines, word_line}
@@ -64,21 +65,23 @@ pub record IsShownWord (word : ℕ × ℕ) : Type 0 where
   pub address : word.0 < 2 ^ 32
   pub value : word.1 < 2 ^ 32
 
--- words are those of data memory: none is named twice, and where none is named there is 0
-pub record AreWordsOf (bus : ℕ → ℕ) (words : List (ℕ × ℕ)) : Type 0 where
+-- words are those of data memory where some accesses go: none is named twice, and at the address of each access there
+-- stands what is named there, 0 where none is
+pub record AreWordsAt (accesses : List Access) (bus : ℕ → ℕ) (words : List (ℕ × ℕ)) : Type 0 where
   pub shown : All IsShownWord words
   pub once : repeated_from 5 [] words ≡ None
-  pub all : named_bus words ≡ bus
+  pub agree : All (λ a. named_bus words a.addr ≡ bus a.addr) accesses
 
 -- the lines that m88 shows of a data fault, and those of words
 abbrev pub shown_fault : Record → List (ℕ × ℕ) → List ℕ
 shown_fault r words = record_lines r ++ flat_map word_line words
 
--- the record that a data fault would leave at a moment, with the words of that moment, is accepted, and what is written
--- is what the service makes of it
+-- the record that a data fault would leave at a moment, with the words of that moment where transactions are pending, is
+-- accepted, and what is written is what the service makes of it over all of data memory
 abbrev pub IsServedAt : Program → (ℕ → Bool) → ℕ → Moment → Type 0
 IsServedAt p named limit m =
-    (words : List (ℕ × ℕ)) → IsRecordOfWords (record_at p named limit m) → AreWordsOf (bus_at p m.retired m.done) words
+    (words : List (ℕ × ℕ)) → IsRecordOfWords (record_at p named limit m)
+    → AreWordsAt (pending_at p m.retired m.done) (bus_at p m.retired m.done) words
     → IsServed (shown_fault (record_at p named limit m) words)
     (served_text (serving_with (record_at p named limit m) (bus_at p m.retired m.done)))
 

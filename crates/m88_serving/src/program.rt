@@ -43,7 +43,8 @@ pub fn m88serve<S: Source, K: Sink>(
     ensures accesses { EachDmtIsOfAnAccess }
     ensures waits { EachLeavesNoneWaiting }
 
-    // What a data fault leaves at any moment of a run, with the words of that moment, is accepted, and served so.
+    // What a data fault leaves at any moment of a run, with the words of that moment where transactions are pending, is
+    // accepted, and served so.
     ensures faults { EachFaultIsServed }
 {
     if !words.is_empty() {
