@@ -126,7 +126,7 @@ at_most_three (a ∷ b ∷ c ∷ []) r few told status are ssbr =
 at_most_three (a ∷ b ∷ c ∷ d ∷ xs) r few told status are ssbr = absurd (omega (arith, few))
 
 -- of a moment
-few_pending : (p : Program) (limit : ℕ) (m : Moment) → HasPast p limit m → length (pending_at p m.retired m.done) ≤ 3
+pub few_pending : (p : Program) (limit : ℕ) (m : Moment) → HasPast p limit m → length (pending_at p m.retired m.done) ≤ 3
 few_pending p limit m past =
     let size = length-drop m.done (transactions p m.retired) in omega (arith, size, past.pending)
 

@@ -13,3 +13,4 @@ pub mod Readback
 pub mod Touched
 pub mod Alike
 pub mod Faulted
+pub mod CaughtUp

@@ -1,18 +1,20 @@
 -- What holds of every input and of every word.
-use Rattle.std.specs.Prelude.{◌≡◌, ◌↔◌, ◌⊎◌, ◌<◌, ◌%◌, ◌^◌, ◌++◌, ℕ, Bool, All, List, [], ◌∷◌, None, Ok, flat_map, true}
+use Rattle.std.specs.Prelude.{◌≡◌, ◌↔◌, ◌⊎◌, ◌<◌, ◌%◌, ◌^◌, ◌++◌, ℕ, Bool, All, List, [], ◌∷◌, None, Ok, flat_map, slice_index, true}
+use Rattle.m88_base.specs.RegisterSet.{registers_in}
 use Rattle.m88_base.specs.declared.reg.Reg.{Reg}
 use Rattle.m88_base.specs.declared.triple.Triple.{Triple}
 use Rattle.m88_event.specs.Run.{moment_after}
 use Rattle.m88_event.specs.Timeline.{Moment, record_at}
 use Rattle.m88_event.specs.declared.letter.Letter.{Letter}
 use Rattle.m88_event.specs.declared.record.Record.{Record}
+use Rattle.m88_isa.specs.Bus.{in_words}
 use Rattle.m88_isa.specs.History.{bus_at, pending_at}
-use Rattle.m88_isa.specs.Machine.{Program}
+use Rattle.m88_isa.specs.Machine.{IsProgram, Program, state}
 use Rattle.m88_isa.specs.Memory.{Touch, access_of, touches_of}
 use Rattle.m88_isa.specs.Triples.{dmt_of}
 use Rattle.m88_isa.specs.declared.instr.MemOp.{MemOp}
 use Rattle.m88_isa.specs.declared.planned.Access.{Access}
-use Rattle.m88_monitor.specs.Serving.{after_service}
+use Rattle.m88_monitor.specs.Serving.{Serving, after_service}
 use Rattle.m88_serving.specs.Cases.{Case}
 use Rattle.m88_report.specs.Report.{record_lines, word_line}
 use Rattle.m88_serving.specs.Faults.{is_dmt, repeated_from}
@@ -90,3 +92,19 @@ abbrev pub EachFaultIsServed : Type 0
 EachFaultIsServed =
     (p : Program) (named : ℕ → Bool) (limit : ℕ) (schedule : List Letter) (k : ℕ)
     → IsServedAt p named limit (moment_after p named limit schedule k)
+
+-- what the service makes of the record that a data fault would leave at a moment, and of memory as it is then
+abbrev pub service_at : Program → (ℕ → Bool) → ℕ → Moment → Serving
+service_at p named limit m = after_service (serving_with (record_at p named limit m) (bus_at p m.retired m.done))
+
+-- behind it data memory is that of the history, and so is each register that was waited for
+pub record CatchesUpAt (p : Program) (named : ℕ → Bool) (limit : ℕ) (m : Moment) : Type 0 where
+  pub memory : (service_at p named limit m).bus ≡ in_words (state p m.retired).memory
+  pub registers : (r : ℕ) → registers_in (record_at p named limit m).ssbr r ≡ true
+      → slice_index (service_at p named limit m).numbers r ≡ slice_index (state p m.retired).regs r
+
+-- so it is at each moment of a run
+abbrev pub EachServiceCatchesUp : Type 0
+EachServiceCatchesUp =
+    (p : Program) → IsProgram p → (named : ℕ → Bool) (limit : ℕ) (schedule : List Letter) (k : ℕ)
+    → CatchesUpAt p named limit (moment_after p named limit schedule k)

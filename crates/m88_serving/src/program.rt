@@ -1,7 +1,7 @@
 //! The top call.
 ghost use Rattle.std.specs.Prelude.{◌≡◌, ◌<◌, length};
 ghost use Rattle.m88_base.specs.Filter.{AnswersFor, AnswersUnfailed, IsInputLeft, ReadsFor, UsageFor, WritesFor};
-ghost use Rattle.m88_serving.specs.Laws.{EachDmtIsOfAnAccess, EachFaultIsServed, EachLeavesNoneWaiting};
+ghost use Rattle.m88_serving.specs.Laws.{EachDmtIsOfAnAccess, EachFaultIsServed, EachLeavesNoneWaiting, EachServiceCatchesUp};
 ghost use Rattle.m88_serving.specs.Served.{IsServed, IsTurnedDown};
 ghost use Rattle.m88_serving.specs.Verdict.{IsTakenCase};
 
@@ -44,8 +44,9 @@ pub fn m88serve<S: Source, K: Sink>(
     ensures waits { EachLeavesNoneWaiting }
 
     // What a data fault leaves at any moment of a run, with the words of that moment where transactions are pending, is
-    // accepted, and served so.
+    // accepted, and served so. Behind that service memory and the registers that were waited for are those of the history.
     ensures faults { EachFaultIsServed }
+    ensures caught_up { EachServiceCatchesUp }
 {
     if !words.is_empty() {
         return Status::Usage;

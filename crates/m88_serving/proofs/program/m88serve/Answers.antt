@@ -4,6 +4,7 @@ use Rattle.m88_base.proofs.Laws.{answers_input, answers_nothing, answers_reply, 
 use Rattle.m88_serving.specs.Served.{IsServed, IsTurnedDown}
 use Rattle.m88_serving.specs.Verdict.{IsTakenCase}
 use Rattle.m88_serving.specs.Inside.Replies.{RepliesServed}
+use Rattle.m88_serving.proofs.CaughtUp.{each_service_catches_up}
 use Rattle.m88_serving.proofs.Dmts.{each_dmt_is_of_an_access}
 use Rattle.m88_serving.proofs.Emptied.{each_leaves_none_waiting}
 use Rattle.m88_serving.proofs.Faulted.{each_fault_is_served}
@@ -64,3 +65,12 @@ returns-in-Err-clause-faults g c = each_fault_is_served
 
 pub returns-in-Ok-clause-faults : goal.returns-in-Ok-clause-faults
 returns-in-Ok-clause-faults g c = each_fault_is_served
+
+pub returns-then-not-is_empty-clause-caught_up : goal.returns-then-not-is_empty-clause-caught_up
+returns-then-not-is_empty-clause-caught_up g c = each_service_catches_up
+
+pub returns-in-Err-clause-caught_up : goal.returns-in-Err-clause-caught_up
+returns-in-Err-clause-caught_up g c = each_service_catches_up
+
+pub returns-in-Ok-clause-caught_up : goal.returns-in-Ok-clause-caught_up
+returns-in-Ok-clause-caught_up g c = each_service_catches_up
