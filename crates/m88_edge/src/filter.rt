@@ -1,6 +1,7 @@
 //! A program between standard input and standard output.
 
 use crate::refusal::Refused;
+use crate::seen::{Seen, Wanted};
 use m88_base::{MOST_INPUT, Status};
 use std::env;
 use std::process::ExitCode;
@@ -58,5 +59,12 @@ pub fn tell_refusal<'a>(
     };
     if let Some(refused) = Refused::of(program, command, written, input) {
         let _ = eprintln!(rt; "{refused}");
+    }
+}
+
+/// Tells a person what an input is that isn't what was wanted, by its front, where that can be seen.
+pub fn tell_seen(rt: &HostRuntime, program: &str, front: &[u8], wanted: Wanted) {
+    if let Some(seen) = Seen::of(front, wanted) {
+        let _ = eprintln!(rt; "{program}: {seen}");
     }
 }

@@ -3,32 +3,41 @@
 use m88_base::{Failed, Sink, Source};
 use std::alloc::Global;
 
-/// How many bytes of what is written are remembered, more than a line that refuses has.
+/// How many bytes of what is written are remembered, more than a line that refuses has; and of what is read where the
+/// whole isn't wanted.
 const FRONT: usize = 512;
 
-/// A source that remembers the bytes that it gave, where that is wanted and as long as there is memory for them.
+/// A source that remembers the bytes that it gave, or the front of them, as long as there is memory for them.
 #[derive(Drop)]
 pub struct Keeping<S> {
     inner: S,
+    is_whole: bool,
     kept: Option<Vec<u8>>,
 }
 
 impl<S: Source> Keeping<S> {
-    /// A source of what another has left.
-    pub fn new(alloc: Global, inner: S, is_wanted: bool) -> Keeping<S> {
-        let kept = if is_wanted {
-            Some(Vec::new(alloc))
-        } else {
-            None
-        };
-        Keeping { inner, kept }
+    /// A source of what another has left, which remembers the whole of it or the front.
+    pub fn new(alloc: Global, inner: S, is_whole: bool) -> Keeping<S> {
+        Keeping {
+            inner,
+            is_whole,
+            kept: Some(Vec::new(alloc)),
+        }
     }
 
-    /// The bytes that were given, in order; None where they were not remembered.
+    /// The bytes that were given, in order; None where not all of them were remembered.
     pub fn kept(&self) -> Option<&[u8]> {
         match &self.kept {
-            Some(bytes) => Some(bytes.as_slice()),
-            None => None,
+            Some(bytes) if self.is_whole => Some(bytes.as_slice()),
+            _ => None,
+        }
+    }
+
+    /// The front of what was given, as far as it was remembered.
+    pub fn front(&self) -> &[u8] {
+        match &self.kept {
+            Some(bytes) => bytes.as_slice(),
+            None => &[],
         }
     }
 }
@@ -42,7 +51,11 @@ impl<S: Source> Source for Keeping<S> {
 
     fn read(&mut self, buf: &mut [u8]) -> Result<usize, Failed> {
         let count = self.inner.read(buf)?;
-        keep(&mut self.kept, &buf[..count]);
+        if self.is_whole {
+            keep(&mut self.kept, &buf[..count]);
+        } else if self.front().len() < FRONT {
+            keep(&mut self.kept, &buf[..count.min(FRONT)]);
+        }
         Ok(count)
     }
 }

@@ -1,12 +1,14 @@
 //! What programs between standard input and standard output share: they answer the words of their process, what went
-//! through them is remembered, and a person is told where an input is refused. It stands outside every promise but that
-//! it is safe and ends.
+//! through them is remembered, and a person is told where an input is refused, and what it is where that can be seen. It
+//! stands outside every promise but that it is safe and ends.
 #![tactic(auto)]
 
 mod filter;
 mod keeping;
 mod refusal;
+mod seen;
 
-pub use filter::{Filter, run, tell_refusal};
+pub use filter::{Filter, run, tell_refusal, tell_seen};
 pub use keeping::{Keeping, Showing};
 pub use refusal::{Refused, put_shown};
+pub use seen::{Seen, Wanted};

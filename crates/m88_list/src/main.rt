@@ -8,7 +8,7 @@ mod tests;
 
 use crate::finding::Finding;
 use m88_base::{Status, StdSink, StdSource};
-use m88_edge::{Filter, Refused, run};
+use m88_edge::{Filter, Keeping, Refused, Wanted, run, tell_seen};
 use m88_listing::m88list;
 use std::process::ExitCode;
 
@@ -24,12 +24,15 @@ impl Filter for M88List {
     }
 
     fn answer(&self, rt: &HostRuntime, words: &[String]) -> Status {
-        let mut source = StdSource::new(rt.reader());
+        let mut source = Keeping::new(rt.alloc(), StdSource::new(rt.reader()), false);
         let mut sink = Finding::new(rt.alloc(), StdSink::new(rt.stdout()));
         let status = m88list(rt.alloc(), words, &mut source, &mut sink);
         match status {
             Status::Usage => tell_usage(rt),
-            Status::Refused => tell_refusal(rt, sink.refusal(), sink.source()),
+            Status::Refused => {
+                tell_refusal(rt, sink.refusal(), sink.source());
+                tell_seen(rt, self.name(), source.front(), Wanted::Source);
+            }
             _ => {}
         }
         status

@@ -2,6 +2,7 @@
 //! `m88_cli::command` to say.
 
 use m88_cli::{FORMS, Form, MOST_FRAMES, MOST_LIMIT, MOST_STATEMENTS, Reads};
+use m88_edge::Wanted;
 use std::fmt;
 
 /// A word after the name of a command.
@@ -29,11 +30,13 @@ pub fn reads_input(form: Form) -> bool {
     form.2 != Reads::Nothing
 }
 
-/// Whether it reads lines that a person wrote, who wants to see the one at fault.
-pub fn reads_lines(form: Form) -> bool {
+/// What it reads; lines of a source are those of a person, who wants to see the one at fault.
+pub fn wanted(form: Form) -> Wanted {
     match form.2 {
-        Reads::Source | Reads::Sources | Reads::Script | Reads::Trace => true,
-        Reads::Nothing | Reads::Records | Reads::Objects => false,
+        Reads::Source | Reads::Sources | Reads::Script | Reads::Trace => Wanted::Source,
+        Reads::Records => Wanted::Records,
+        Reads::Objects => Wanted::Objects,
+        Reads::Nothing => Wanted::Bytes,
     }
 }
 

@@ -7,12 +7,12 @@ mod forms;
 mod tests;
 mod usage;
 
-use crate::forms::{form_of, reads_lines};
+use crate::forms::{form_of, wanted};
 use crate::usage::{NoFile, Usage};
 use m88_base::{StdSink, StdSource};
 use m88_board::Unwatched;
 use m88_cli::{Status, m88};
-use m88_edge::{Filter, Keeping, Showing, run, tell_refusal};
+use m88_edge::{Filter, Keeping, Showing, Wanted, run, tell_refusal, tell_seen};
 use std::path::Path;
 use std::process::ExitCode;
 
@@ -29,14 +29,18 @@ impl Filter for M88 {
             Some(word) => word.as_str(),
             None => "",
         };
-        let keeps = form_of(command).is_some_and(|form| reads_lines(form));
-        let mut source = Keeping::new(rt.alloc(), StdSource::new(rt.reader()), keeps);
+        let wanted = form_of(command).map_or(Wanted::Bytes, |form| wanted(form));
+        let reads_lines = wanted == Wanted::Source;
+        let mut source = Keeping::new(rt.alloc(), StdSource::new(rt.reader()), reads_lines);
         let mut sink = Showing::new(rt.alloc(), StdSink::new(rt.stdout()));
         let mut watch = Unwatched::new();
         let status = m88(rt.alloc(), words, &mut source, &mut sink, &mut watch);
         match status {
             Status::Usage => tell_usage(rt, words),
-            Status::Refused => tell_refusal(rt, self.name(), command, sink.front(), source.kept()),
+            Status::Refused => {
+                tell_refusal(rt, self.name(), command, sink.front(), source.kept());
+                tell_seen(rt, self.name(), source.front(), wanted);
+            }
             _ => {}
         }
         status

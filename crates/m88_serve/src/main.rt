@@ -2,13 +2,19 @@
 //! file, a pipe or a terminal gave or took is outside every promise, and so is what stands on standard error.
 #![tactic(auto)]
 
-use m88_base::{Status, StdSink, StdSource};
-use m88_edge::{Filter, Keeping, Showing, run, tell_refusal};
+mod unnamed;
+
+use crate::unnamed::Unnamed;
+use m88_base::{Hex8, Status, StdSink, StdSource};
+use m88_edge::{Filter, Keeping, Showing, Wanted, run, tell_refusal, tell_seen};
 use m88_serving::m88serve;
 use std::process::ExitCode;
 
 /// The version of this program, which manual page and changelog tell too.
 const VERSION: &str = "1.0.0";
+
+/// How many lines are looked through for a record.
+const MOST_LINES: usize = 100_000;
 
 /// The program.
 struct M88Serve;
@@ -24,7 +30,12 @@ impl Filter for M88Serve {
         let status = m88serve(rt.alloc(), words, &mut source, &mut sink);
         match status {
             Status::Usage => tell_usage(rt),
-            Status::Refused => tell_refusal(rt, self.name(), "", sink.front(), source.kept()),
+            Status::Done => tell_unnamed(rt, source.front(), sink.front().unwrap_or(&[])),
+            Status::Refused => {
+                tell_refusal(rt, self.name(), "", sink.front(), source.kept());
+                tell_seen(rt, self.name(), source.front(), Wanted::Fault);
+                tell_record(rt, source.front());
+            }
             _ => {}
         }
         status
@@ -40,4 +51,28 @@ fn tell_usage(rt: &HostRuntime) {
     let _ = eprintln!(rt;
         "m88serve {VERSION}: it takes no words and opens no file\nusage: m88serve < FAULT > SERVICE"
     );
+}
+
+/// Tells a person which words of transactions nobody gave.
+fn tell_unnamed(rt: &HostRuntime, input: &[u8], service: &[u8]) {
+    for word in Unnamed::of(input, service).taken {
+        if let Some(word) = word {
+            let word = Hex8(word);
+            let _ = eprintln!(rt; "m88serve: no word was given for {word}: taken as 0");
+        }
+    }
+}
+
+/// Tells a person where the record of a fault begins in a text that has other lines before it.
+fn tell_record(rt: &HostRuntime, input: &[u8]) {
+    for (number, line) in (1..=MOST_LINES).zip(input.split(|byte| *byte == b'\n')) {
+        if line.starts_with(b"epsr ") {
+            if number > 1 {
+                let _ = eprintln!(rt;
+                    "m88serve: a record begins at line {number}: give its lines from there to t2, and lines mem"
+                );
+            }
+            return;
+        }
+    }
 }

@@ -3,7 +3,7 @@
 #![tactic(auto)]
 
 use m88_base::{Status, StdSink, StdSource};
-use m88_edge::{Filter, Showing, run, tell_refusal};
+use m88_edge::{Filter, Keeping, Showing, Wanted, run, tell_refusal, tell_seen};
 use m88_sourcing::m88source;
 use std::process::ExitCode;
 
@@ -19,12 +19,19 @@ impl Filter for M88Source {
     }
 
     fn answer(&self, rt: &HostRuntime, words: &[String]) -> Status {
-        let mut source = StdSource::new(rt.reader());
+        let is_binary = words.first().is_some_and(|word| word.as_str() == "at");
+        let mut source = Keeping::new(rt.alloc(), StdSource::new(rt.reader()), false);
         let mut sink = Showing::new(rt.alloc(), StdSink::new(rt.stdout()));
         let status = m88source(rt.alloc(), words, &mut source, &mut sink);
         match status {
             Status::Usage => tell_usage(rt),
-            Status::Refused => tell_refusal(rt, self.name(), "", sink.front(), None),
+            Status::Done if is_binary => tell_seen(rt, self.name(), source.front(), Wanted::Bytes),
+            Status::Refused => {
+                tell_refusal(rt, self.name(), "", sink.front(), None);
+                if !is_binary {
+                    tell_seen(rt, self.name(), source.front(), Wanted::Records);
+                }
+            }
             _ => {}
         }
         status
