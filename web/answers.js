@@ -1,0 +1,76 @@
+"use strict";
+// The proved programs, which stand packed in the page and answer in workers.
+
+// The text of each example, by its name.
+const EXAMPLES = new Map([...document.querySelectorAll("script[data-example]")].map((it) => [it.dataset.example, it.textContent]));
+
+// The names of the programs; m88 is the first.
+const PROGRAMS = [...document.querySelectorAll("script[data-program]")].map((it) => it.dataset.program);
+
+const bytesOf = (text) => new TextEncoder().encode(text), textOf = (bytes) => new TextDecoder().decode(bytes);
+
+// Why this browser can't run the programs, as a sentence, or "" where it can. The bytes are a module whose memory has 64 bits.
+function whyNotRun() {
+  const least = Uint8Array.of(0, 97, 115, 109, 1, 0, 0, 0, 5, 3, 1, 4, 1);
+  if (typeof WebAssembly === "object" && WebAssembly.validate(least) && typeof DecompressionStream === "function") return "";
+  return "This browser can't run the programs, which need WebAssembly with a memory of 64 bits. Open this file in Chrome, Edge or " +
+    "another Chromium from version 133 on, or in Firefox from version 134 on.";
+}
+
+// The module of a program, which is compiled once.
+const compiled = new Map();
+function moduleOf(program) {
+  if (!compiled.has(program)) compiled.set(program, compile(program));
+  return compiled.get(program);
+}
+async function compile(program) {
+  const packed = document.querySelector(`script[data-program="${program}"]`).textContent;
+  const bytes = Uint8Array.from(atob(packed), (letter) => letter.charCodeAt(0));
+  const stream = new Blob([bytes]).stream().pipeThrough(new DecompressionStream("gzip"));
+  return WebAssembly.compile(await new Response(stream).arrayBuffer());
+}
+
+// A call that was cancelled is refused with this.
+class Cancelled extends Error {
+  constructor() { super("cancelled"); }
+}
+
+// A worker with the programs: it answers what it is asked one after the other. A page may have several.
+class Programs {
+  constructor() {
+    this.asked = 0;
+    this.begin();
+  }
+
+  begin() {
+    const text = document.getElementById("worker").textContent;
+    this.waiting = new Map();
+    this.worker = new Worker(URL.createObjectURL(new Blob([text], { type: "text/javascript" })));
+    this.worker.onmessage = ({ data: { number, ...answer } }) => {
+      this.waiting.get(number).resolve(answer);
+      this.waiting.delete(number);
+    };
+    this.worker.onerror = ({ message }) => this.end(new Error(message));
+  }
+
+  // What a program answers to words, which are texts, and an input, a text or bytes: {status, output, told, time, memory}.
+  // `output` and `told` are the bytes of standard output and standard error, `time` is in ms and `memory` in bytes.
+  async answer(program, words, input = "") {
+    const begun = this.worker, module = await moduleOf(program), number = ++this.asked;
+    if (begun !== this.worker) throw new Cancelled();
+    return new Promise((resolve, reject) => {
+      this.waiting.set(number, { resolve, reject });
+      this.worker.postMessage({ number, module, words, input: typeof input === "string" ? bytesOf(input) : input });
+    });
+  }
+
+  // Ends what is being answered and drops what waits. Nothing else ends a worker in the midst of a call.
+  cancel() { this.end(new Cancelled()); }
+
+  end(error) {
+    const waiting = this.waiting;
+    this.worker.terminate();
+    this.begin();
+    for (const { reject } of waiting.values()) reject(error);
+  }
+}
