@@ -1,8 +1,9 @@
 "use strict";
 // The proved programs, which stand packed in the page and answer in workers.
 
-// The text of each example, by its name.
-const EXAMPLES = new Map([...document.querySelectorAll("script[data-example]")].map((it) => [it.dataset.example, it.textContent]));
+// The text of each example, by its name. It begins on the line after its tag.
+const EXAMPLES = new Map([...document.querySelectorAll("script[data-example]")]
+  .map((it) => [it.dataset.example, it.textContent.slice(1)]));
 
 // The names of the programs; m88 is the first.
 const PROGRAMS = [...document.querySelectorAll("script[data-program]")].map((it) => it.dataset.program);
@@ -12,9 +13,9 @@ const bytesOf = (text) => new TextEncoder().encode(text), textOf = (bytes) => ne
 // Why this browser can't run the programs, as a sentence, or "" where it can. The bytes are a module whose memory has 64 bits.
 function whyNotRun() {
   const least = Uint8Array.of(0, 97, 115, 109, 1, 0, 0, 0, 5, 3, 1, 4, 1);
-  if (typeof WebAssembly === "object" && WebAssembly.validate(least) && typeof DecompressionStream === "function") return "";
-  return "This browser can't run the programs, which need WebAssembly with a memory of 64 bits. Open this file in Chrome, Edge or " +
-    "another Chromium from version 133 on, or in Firefox from version 134 on.";
+  const isAble = typeof WebAssembly === "object" && WebAssembly.validate(least) && typeof DecompressionStream === "function";
+  return isAble ? "" : "This browser can't run the programs, which need WebAssembly with a memory of 64 bits. Open this file in " +
+    "Chrome, Edge or another Chromium from version 133 on, or in Firefox from version 134 on.";
 }
 
 // The module of a program, which is compiled once.
