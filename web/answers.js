@@ -31,6 +31,8 @@ async function compile(program) {
   return WebAssembly.compile(await new Response(stream).arrayBuffer());
 }
 
+const WORKER = URL.createObjectURL(new Blob([document.getElementById("worker").textContent], { type: "text/javascript" }));
+
 // A call that was cancelled is refused with this.
 class Cancelled extends Error {
   constructor() { super("cancelled"); }
@@ -44,9 +46,8 @@ class Programs {
   }
 
   begin() {
-    const text = document.getElementById("worker").textContent;
     this.waiting = new Map();
-    this.worker = new Worker(URL.createObjectURL(new Blob([text], { type: "text/javascript" })));
+    this.worker = new Worker(WORKER);
     this.worker.onmessage = ({ data: { number, ...answer } }) => {
       this.waiting.get(number).resolve(answer);
       this.waiting.delete(number);
@@ -57,11 +58,12 @@ class Programs {
   // What a program answers to words, which are texts, and an input, a text or bytes: {status, output, told, time, memory}.
   // `output` and `told` are the bytes of standard output and standard error, `time` is in ms and `memory` in bytes.
   async answer(program, words, input = "") {
+    const list = words.map((word) => `${word}\0`).join("");
     const begun = this.worker, module = await moduleOf(program), number = ++this.asked;
     if (begun !== this.worker) throw new Cancelled();
     return new Promise((resolve, reject) => {
       this.waiting.set(number, { resolve, reject });
-      this.worker.postMessage({ number, module, words, input: typeof input === "string" ? bytesOf(input) : input });
+      this.worker.postMessage({ number, module, words: bytesOf(list), input: typeof input === "string" ? bytesOf(input) : input });
     });
   }
 

@@ -1,9 +1,7 @@
 "use strict";
 // What the worker of answers.js runs. A message {number, module, words, input} asks a program; the message {number, status, output,
-// told, time, memory} is its answer. Each answer is of an instance of its own, whose memory nothing was written to before.
-
-// The words as the program gets them, each ended by a zero.
-const laid = (words) => new TextEncoder().encode(words.map((word) => `${word}\0`).join(""));
+// told, time, memory} is its answer. Words, input and what was written are bytes; a zero ends each word. Each answer is of an
+// instance of its own, whose memory nothing was written to before.
 
 // Puts bytes where an instance has made room for them.
 function put({ memory }, at, bytes) {
@@ -22,8 +20,8 @@ function answered(module, words, input) {
   const began = performance.now();
   let memory = 0, answer;
   try {
-    const { exports } = new WebAssembly.Instance(module, {}), list = laid(words);
-    put(exports, exports.room_for_words(BigInt(list.length)), list);
+    const { exports } = new WebAssembly.Instance(module, {});
+    put(exports, exports.room_for_words(BigInt(words.length)), words);
     put(exports, exports.room_for_input(BigInt(input.length)), input);
     const status = exports.start();
     memory = exports.memory.buffer.byteLength;
