@@ -81,6 +81,9 @@ function drawn(seed) {
   };
 }
 
+// Blocks of each kind, as they must be found again.
+const LONGEST = 300000, FILLED = Array.from({ length: 8 }, (_, mark) => Buffer.alloc(LONGEST, 31 * mark + 7));
+
 // A heap that is called at random, with at most 400 blocks, each filled with bytes of its own that are looked at before it is let go.
 class Heap {
   constructor(module, seed) {
@@ -108,17 +111,17 @@ class Heap {
 
   // A block's first bytes must be as they were written.
   look({ at, mark }, length) {
-    for (let n = at; n < at + length; n++) if (this.bytes[n] !== mark) throw new Error(`byte ${n} was changed`);
+    if (this.bytes.compare(FILLED[mark], 0, length, at, at + length)) throw new Error(`the block at ${at} was changed`);
   }
 
   // A few are large.
   length() {
-    return this.draw(4) ? this.draw(200) : this.draw(20) ? this.draw(5000) : this.draw(300000);
+    return this.draw(4) ? this.draw(200) : this.draw(5) ? this.draw(5000) : this.draw(LONGEST);
   }
 
   step() {
     const k = this.draw(400), block = this.blocks[k], { rattle_alloc, rattle_realloc, rattle_dealloc } = this.exports;
-    const length = this.length(), mark = this.draw(256);
+    const length = this.length(), mark = this.draw(FILLED.length);
     let at;
     if (!block) {
       at = this.called(rattle_alloc, length, 8);
@@ -132,7 +135,7 @@ class Heap {
       this.look(at === null ? block : { at, mark: block.mark }, at === null ? block.length : Math.min(block.length, length));
     }
     if (at === null) return;
-    this.bytes.fill(mark, at, at + length);
+    FILLED[mark].copy(this.bytes, at, 0, length);
     this.blocks[k] = { at, length, mark };
   }
 }
