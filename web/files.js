@@ -1,0 +1,108 @@
+"use strict";
+// What is opened or dropped: by its first bytes a source, records, a binary, a trace, a fault, a session, or something to be told.
+
+const isOfText = (bytes) => !bytes.subarray(0, 4096).some((each) => each < 32 && each !== 9 && each !== 10 && each !== 13);
+const begins = (bytes, ...first) => first.every((each, n) => bytes[n] === each);
+
+// The kind of a file, and what is said of one that can't be taken.
+function kindOf(bytes) {
+  const text = textOf(bytes.subarray(0, 4096));
+  if (begins(bytes, 0xFF, 0xFE) || begins(bytes, 0xFE, 0xFF)) return { why: "is in UTF-16. Save it as ASCII or UTF-8" };
+  if (begins(bytes, 0xEF, 0xBB, 0xBF)) return { kind: "source", from: 3 };
+  if (begins(bytes, 0x7F, 0x45, 0x4C, 0x46)) return { why: "is an ELF file. Records are made of it by `objcopy -O srec`" };
+  if (/^\s*S[0-9][0-9A-Fa-f]{2}/.test(text)) return { kind: "records" };
+  if (!isOfText(bytes)) return { kind: "binary" };
+  if (/^\d+ [0-9A-F]{8} [0-9A-F]{8}/.test(text)) return { kind: "trace" };
+  if (/^epsr [0-9A-F]{8} /.test(text)) return { kind: /^\d+ [ire] /m.test(textOf(bytes)) ? "session" : "fault" };
+  if (/^end (limit|exit at|vector)/.test(text)) return { why: "is the report of a run, which needs its source to be drawn" };
+  if (/^refused \d+:\d+ /.test(text)) return { why: "is the answer of a program that refused its input" };
+  if (/^object \S+\n/.test(text)) return { kind: "objects" };
+  if (/^source\r?$/m.test(textOf(bytes)) && /^(step|trace|go|break|regs|pipe|mem|drain)\b/.test(text)) return { kind: "script" };
+  return { kind: /^program\r?$/m.test(textOf(bytes)) ? "programs" : "source" };
+}
+
+const COMMANDS_OF = { objects: "m88 link", script: "m88 mon", programs: "m88 share" };
+
+const TAKERS = {
+  source: (bytes, name) => workbench.take({ name, bytes }),
+  objects: (bytes, name) => workbench.take({ name, bytes, command: COMMANDS_OF.objects }),
+  script: (bytes, name) => workbench.take({ name, bytes, command: COMMANDS_OF.script }),
+  programs: (bytes, name) => workbench.take({ name, bytes, command: COMMANDS_OF.programs }),
+  records: (bytes, name) => takeRom(bytes, name, []),
+  binary: askAddress, trace: takeTrace, fault: takeFault, session: takeSession,
+};
+
+async function openFile(bytes, name) {
+  const { kind, why, from = 0 } = kindOf(bytes);
+  if (why) return tell(`${name} ${why}.`, true);
+  try {
+    return await TAKERS[kind](bytes.subarray(from), name);
+  } catch (error) {
+    return tell(error.message, true);
+  }
+}
+
+// A ROM goes through m88source into the editor, where it can be changed, and built again.
+async function takeRom(bytes, name, words) {
+  const { status, output, told } = await askText(workbench.long, words, bytes, "m88source");
+  if (status !== 0) return tell(`${name}: ${told || output}`, true);
+  await workbench.take({ name, source: output, command: readsSource() ? undefined : "m88 run" });
+  return tell(`${name} is shown as m88source writes it; Records has what it builds.`);
+}
+
+function askAddress(bytes, name) {
+  const dialog = find("binary");
+  find("binary-name").textContent = `${name}, ${many(bytes.length, "byte")}`;
+  dialog.returnValue = "";
+  dialog.showModal();
+  return new Promise((resolve) => {
+    dialog.onclose = () => resolve(dialog.returnValue !== "take" ? tell("") :
+      takeRom(bytes, name, ["at", find("address").value.trim() || "0", ...find("entries").value.split(/[\s,]+/).filter(Boolean)]));
+  });
+}
+
+// A trace that is dropped is checked against the source at the left.
+async function takeTrace(bytes, name) {
+  const source = workbench.sourceGiven, lines = textOf(source).split("\n"), isClosed = lines.at(-1) === "";
+  const input = joined(source, bytesOf(isClosed ? "trace\n" : "\ntrace\n"), bytes);
+  const { status, output, told } = await askText(workbench.long, ["check"], input);
+  const at = Number(/^refused (\d+):1 differs/.exec(output)?.[1] ?? 0) - lines.length - (isClosed ? 0 : 1);
+  if (status === 0) return tell(`${name} is a trace of the source at the left: ${output.trim()}.`);
+  if (!(at > 0)) return tell(`${name}: ${told || output}`, true);
+  const { output: right } = await askText(workbench.long, ["trace", String(Math.max(at, MOST_RETIRED)), "none", "-"], source);
+  const [found, wanted] = [textOf(bytes), right].map((text) => text.split("\n")[at - 1] || "no line");
+  return tell(`${name} differs from line ${at} on. There it has\n${found}\nand the trace of the source has\n${wanted}`, true);
+}
+
+async function takeFault(bytes, name) {
+  const { status, output, told } = await askText(workbench.long, [], bytes, "m88serve");
+  if (status !== 0) return tell(`${name}: ${told || output}`, true);
+  workbench.answer.set(bytesOf(output));
+  chooseRoom("answer");
+  return tell(`${name} is a fault; the answer is what m88serve says of it.`);
+}
+
+// A session that was written elsewhere is drawn as it is; its source isn't known.
+function takeSession(bytes, name) {
+  const run = runOfSession(textOf(bytes));
+  workbench.serial++;
+  showRun(run);
+  chooseRoom("timeline");
+  tell(`${name} is drawn; it is of no source at the left.`);
+}
+
+function beginFiles() {
+  const open = async (file) => openFile(new Uint8Array(await file.arrayBuffer()), file.name);
+  find("file").addEventListener("change", async ({ target }) => {
+    if (target.files[0]) await open(target.files[0]);
+    target.value = "";
+  });
+  document.addEventListener("dragover", (event) => { event.preventDefault(); document.body.classList.add("over"); });
+  document.addEventListener("dragleave", () => document.body.classList.remove("over"));
+  document.addEventListener("drop", (event) => {
+    event.preventDefault();
+    document.body.classList.remove("over");
+    if (event.dataTransfer.files[0]) open(event.dataTransfer.files[0]);
+    else openFile(bytesOf(event.dataTransfer.getData("text/plain")), "the text");
+  });
+}

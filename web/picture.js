@@ -1,0 +1,253 @@
+"use strict";
+// The picture of a run on the page: its parts, the thin bar over it, what marks the chosen event, zoom, and what hides the rest.
+
+const find = (id) => document.getElementById(id);
+// What is shown: a run, the example that it is of, the view, the chosen event with its word, and the wrong way that is compared.
+const shown = { run: null, example: null, view: "timeline", k: 0, r: ROW.XIP, isOfRecord: false, way: "oldest", zoom: 1 };
+const view = () => VIEWS[shown.view];
+const ZOOMS = [.35, .5, .7, 1, 1.4, 2];
+const later = window.requestIdleCallback ?? ((work) => setTimeout(() => work({ timeRemaining: () => 8 }), 1));
+const never = window.cancelIdleCallback ?? clearTimeout;
+
+const ROOM = `
+  <div class="row screen" id="steps" role="toolbar" aria-label="Events">
+    <button id="before" type="button" title="the fault before (p)" aria-keyshortcuts="p">&#8592; fault</button>
+    <button id="back" type="button" title="the event before (left arrow)" aria-label="The event before">&#8592;</button>
+    <label>Event <input id="event" type="number" aria-describedby="count"></label> <span id="count" class="soft"></span>
+    <button id="forth" type="button" title="the next event (right arrow)" aria-label="The next event">&#8594;</button>
+    <button id="next" type="button" title="the next fault (n)" aria-keyshortcuts="n">fault &#8594;</button>
+    <span id="letters" class="pair" role="group" aria-label="The letter of this event" hidden></span>
+    <label title="so that a class may guess"><input id="hide" type="checkbox"> hide what comes later</label>
+  </div>
+  <p id="sentence" role="status" aria-live="polite"></p>
+  <canvas id="overview" role="img" aria-label="The whole run: its faults, its bars, and what is in view"></canvas>
+  <div id="picture" tabindex="0" role="application" aria-describedby="sentence keys"
+    aria-label="Picture of the run. Arrow keys choose an event and a word, n and p lead to faults."></div>
+  <div class="row screen" id="ways">
+    <span class="pair" role="group" aria-label="View">
+      <button id="timeline" type="button">Timeline</button><button id="words" type="button">Words</button>
+    </span>
+    <span class="pair" role="group" aria-label="Zoom">
+      <button id="smaller" type="button" aria-label="Smaller">&#8722;</button><button id="larger" type="button" aria-label="Larger">+</button>
+    </span>
+    <button id="save-picture" type="button">Save as SVG</button>
+    <button id="print" type="button">Print</button>
+    <span id="keys" class="soft">Keys: <kbd>&#8592;</kbd> <kbd>&#8594;</kbd> events, <kbd>&#8593;</kbd> <kbd>&#8595;</kbd> words,
+      <kbd>n</kbd> <kbd>p</kbd> faults, <kbd>Home</kbd> <kbd>End</kbd></span>
+  </div>
+  <p id="key"></p>`;
+
+const countParts = () => (shown.run ? Math.ceil(shown.run.columns.length / view().part) : 0);
+const FEW_PARTS = 100; // So many are all drawn, for a search in the page; of more those alone that are in view.
+const parts = new Map();
+let drawer = 0;
+
+// The picture stands in parts of some columns. Those that come into view are drawn at once.
+function layPicture() {
+  const { run, zoom } = shown, { wide, left, height, names } = view(), high = height(run), scrolled = find("picture").scrollLeft;
+  parts.clear();
+  never(drawer);
+  const width = run.columns.length * wide * zoom + left * zoom;
+  find("picture").innerHTML = `<div id="strip" style="width: ${width}px; height: ${high * zoom}px">` +
+    `${opened(left, high, ' id="names"', 0, zoom)}<g id="named">${names(run)}</g></svg><div id="marks"></div></div>`;
+  find("picture").scrollLeft = scrolled;
+  find("key").innerHTML = shown.view === "timeline" ? KEY : "";
+  for (const name of Object.keys(VIEWS)) find(name).setAttribute("aria-pressed", String(name === shown.view));
+  find("smaller").disabled = zoom === ZOOMS[0];
+  find("larger").disabled = zoom === ZOOMS.at(-1);
+  drawSeen();
+  if (countParts() <= FEW_PARTS) drawLater(0);
+}
+
+function drawPart(n) {
+  if (n < 0 || n >= countParts() || parts.has(n)) return;
+  const { run, zoom } = shown, { wide, part, left, height } = view(), first = n * part;
+  const last = Math.min(first + part, run.columns.length), place = document.createElement("div"), width = (last - first) * wide * zoom;
+  place.className = "part";
+  place.style = `left: ${(left + first * wide) * zoom}px; width: ${width}px; height: ${height(run) * zoom}px`;
+  parts.set(n, place);
+  const before = [...parts.keys()].filter((other) => other < n).sort((a, b) => b - a)[0];
+  (before === undefined ? find("names") : parts.get(before)).after(place);
+  fillPart(n);
+}
+
+function fillPart(n) {
+  const { run, zoom } = shown, { wide, part, left, height, draw, needs } = view(), place = parts.get(n), high = height(run);
+  const first = n * part, last = Math.min(first + part, run.columns.length), wanted = needs && need(run, first, last);
+  place.innerHTML = opened(left, high, ' class="names" aria-hidden="true"', 0, zoom) + '<use href="#named"/></svg>' +
+    opened((last - first) * wide, high, "", first * wide, zoom) + draw(run, first, last) + "</svg>";
+  wanted?.then(() => { if (parts.get(n) === place) fillPart(n); }, () => {});
+  if (find("hide").checked) veil(place);
+}
+
+// What stands after each of some events: at once where it is known, else a promise. The page may know how to ask for it.
+function need(run, first, last) {
+  const isKnown = run.columns.slice(first, last).every((c) => c.pipe);
+  return isKnown || !run.ask ? null : run.ask(first, last);
+}
+
+function drawSeen() {
+  if (!shown.run) return;
+  const wide = view().part * view().wide * shown.zoom, { scrollLeft, clientWidth } = find("picture");
+  const first = Math.floor(scrollLeft / wide) - 1, last = Math.ceil((scrollLeft + clientWidth) / wide) + 1;
+  for (let n = first; n < last; n++) drawPart(n);
+  if (countParts() > FEW_PARTS) {
+    for (const [n, place] of parts) {
+      if (n >= first - 4 && n < last + 4) continue;
+      place.remove();
+      parts.delete(n);
+    }
+  }
+  drawOverview();
+}
+
+// Draws the parts from one on, some at a time, while the browser has nothing else to do.
+function drawLater(n) {
+  drawer = later((time) => {
+    do drawPart(n++); while (n < countParts() && time.timeRemaining() > 2);
+    if (n < countParts()) drawLater(n);
+  }, { timeout: 200 });
+}
+
+// All parts, for print, and for whoever looks at all of them.
+function drawAll() {
+  for (let n = 0; n < countParts(); n++) drawPart(n);
+}
+
+// The last column that may be seen: while the rest is hidden, the chosen one.
+const lastSeen = () => (find("hide").checked ? shown.k : shown.run.columns.length - 1);
+
+// For each pixel of a width: how many faults its columns have, whether a load or a store is pending there.
+function overviewOf(run, wide) {
+  const all = run.columns.length, faults = new Float32Array(wide), lanes = new Uint8Array(3 * wide), last = lastSeen();
+  const at = (k) => Math.min(wide - 1, Math.floor(k / all * wide));
+  for (const { at: k } of run.faults) if (k <= last) faults[at(k + .5)]++;
+  for (const bar of run.bars) {
+    const from = bar.lane * wide;
+    if (bar.from <= last) lanes.fill(bar.write ? 2 : 1, from + at(bar.from), from + at(Math.min(bar.to, last) + .999) + 1);
+  }
+  return { faults, lanes, most: faults.reduce((a, b) => Math.max(a, b), 1) };
+}
+
+let overviewOfRun = null;
+// The thin bar over the run. A fault is a line from top to bottom; where a pixel has several its height says how many.
+function drawOverview() {
+  const canvas = find("overview"), { run, k } = shown, wide = canvas.clientWidth, high = 26, ratio = window.devicePixelRatio || 1;
+  if (!run || !wide) return;
+  canvas.width = wide * ratio;
+  canvas.height = high * ratio;
+  const to = canvas.getContext("2d"), style = getComputedStyle(canvas), colour = (name) => style.getPropertyValue(name).trim();
+  const fill = (name, x, y, w, h) => { to.fillStyle = colour(name); to.fillRect(x, y, w, h); };
+  to.scale(ratio, ratio);
+  const key = `${wide} ${lastSeen()}`;
+  if (overviewOfRun?.run !== run || overviewOfRun.key !== key) overviewOfRun = { run, key, ...overviewOf(run, wide) };
+  const { faults, lanes, most } = overviewOfRun, thick = run.faults.length < wide / 8 ? 3 : 1;
+  for (let lane = 0; lane < 3; lane++) {
+    for (let x = 0, end; x < wide; x = end) {
+      const is = lanes[lane * wide + x];
+      for (end = x + 1; end < wide && lanes[lane * wide + end] === is; end++);
+      if (is) fill(is === 2 ? "--store-line" : "--load-line", x, 5 + lane * 6, end - x, 4);
+    }
+  }
+  for (let x = 0; x < wide; x++) {
+    const part = faults[x] / most;
+    if (part) fill("--fault-line", x - (thick - 1) / 2, high * (1 - part) * .8, thick, high);
+  }
+  const { scrollLeft, clientWidth } = find("picture"), whole = run.columns.length * view().wide * shown.zoom;
+  to.globalAlpha = .2;
+  fill("--mark", scrollLeft / whole * wide, 0, Math.min(1, (clientWidth - view().left * shown.zoom) / whole) * wide, high);
+  to.globalAlpha = 1;
+  fill("--ink", Math.floor((k + .5) / run.columns.length * wide), 0, 2, high);
+}
+
+function mark() {
+  const { run, k, r, isOfRecord, zoom } = shown, { wide, left, places, frame } = view();
+  const around = ({ x, y, w, h }, name) => `<div class="${name}" style="left: ${(x + left) * zoom}px; top: ${y * zoom}px; ` +
+    `width: ${w * zoom}px; height: ${h * zoom}px"></div>`;
+  const hidden = find("hide").checked ? laterOf(run, k) : [], words = places(run, k, r, isOfRecord);
+  find("marks").innerHTML = [...hidden.map((place) => around(place, "later")), around({ x: k * wide, y: 0, w: wide, h: frame(run) }, "event"),
+    ...words.map((place) => around(place, "word"))].join("");
+  if (find("hide").checked) veil(find("picture"));
+}
+
+// Hides what leads from a fault that comes later back to what is seen.
+function veil(place) {
+  for (const each of place.querySelectorAll("[data-fault]")) {
+    each.style.visibility = find("hide").checked && Number(each.dataset.fault) > shown.k ? "hidden" : "";
+  }
+}
+
+// What comes after an event, so that a class may guess: all to its right, but for the record of a fault that is reached.
+function laterOf(run, k) {
+  const { wide, frame, height, recordReach } = view(), x = (k + 1) * wide, end = run.columns.length * wide, top = frame(run);
+  const reached = run.faults.filter((fault) => fault.at <= k).at(-1);
+  const from = Math.max(x, reached ? reached.at * wide + recordReach : 0), below = height(run) - top;
+  return [{ x, y: 0, w: end - x, h: top }, { x: from, y: top, w: end - from, h: below }].filter(({ w, h }) => w > 0 && h > 0);
+}
+
+// Brings an event into view, some columns from the edge.
+function leadTo(k) {
+  const { zoom } = shown, wide = view().wide * zoom, picture = find("picture"), x = k * wide;
+  const room = picture.clientWidth - view().left * zoom;
+  const ahead = Math.min(2 * wide, Math.max(0, (room - wide) / 2));
+  if (x < picture.scrollLeft + ahead * .5 || x + wide > picture.scrollLeft + room - ahead * .5) {
+    picture.scrollLeft = Math.max(0, x - (room - wide) / 2);
+  }
+  drawSeen();
+}
+
+function chooseView(name) {
+  shown.view = name;
+  if (!shown.run) return;
+  layPicture();
+  choose(shown.k);
+}
+
+function chooseZoom(step) {
+  shown.zoom = ZOOMS[Math.max(0, Math.min(ZOOMS.length - 1, ZOOMS.indexOf(shown.zoom) + step))];
+  chooseView(shown.view);
+}
+
+// A file with what is handed over, for the reader to keep.
+function saveFile(name, content, type) {
+  const link = document.createElement("a");
+  link.href = URL.createObjectURL(new Blob([content], { type }));
+  link.download = name;
+  link.click();
+  URL.revokeObjectURL(link.href);
+}
+
+// On the thin bar the event below the pointer is chosen.
+function followOverview(event) {
+  if (!shown.run || (event.buttons === 0 && event.type === "pointermove")) return;
+  const { left, width } = find("overview").getBoundingClientRect(), all = shown.run.columns.length;
+  chooseEvent(Math.max(0, Math.min(all - 1, Math.floor((event.clientX - left) / width * all))));
+}
+
+// A click chooses what is below it, by its place.
+function clickPicture(event) {
+  if (!shown.run || find("names").contains(event.target)) return;
+  const corner = find("strip").getBoundingClientRect(), { left, wide, wordAt } = view(), { zoom } = shown;
+  const x = (event.clientX - corner.left) / zoom - left, y = (event.clientY - corner.top) / zoom, k = Math.floor(x / wide);
+  if (k < 0 || k >= shown.run.columns.length) return;
+  const word = wordAt(shown.run, k, x, y);
+  if (word) choose(word.k, word.r, Boolean(word.isOfRecord));
+}
+
+function beginPicture(place) {
+  place.innerHTML = ROOM;
+  for (const name of Object.keys(VIEWS)) find(name).addEventListener("click", () => chooseView(name));
+  find("smaller").addEventListener("click", () => chooseZoom(-1));
+  find("larger").addEventListener("click", () => chooseZoom(1));
+  find("overview").addEventListener("pointerdown", followOverview);
+  find("overview").addEventListener("pointermove", followOverview);
+  find("picture").addEventListener("click", clickPicture);
+  find("picture").addEventListener("scroll", drawSeen);
+  window.addEventListener("resize", drawSeen);
+  window.addEventListener("beforeprint", drawAll);
+  matchMedia("(prefers-color-scheme: dark)").addEventListener("change", drawOverview);
+  find("print").addEventListener("click", () => window.print());
+  find("save-picture").addEventListener("click", () => {
+    if (shown.run) saveFile(`${shown.example?.key ?? "run"}.svg`, drawing(shown.run, view()) + "\n", "image/svg+xml");
+  });
+}

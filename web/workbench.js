@@ -1,0 +1,337 @@
+"use strict";
+// The page with the programs in it: what stands at the left is built, run and drawn as it is changed.
+
+const workbench = {
+  live: null, long: null, // the workers: of what is drawn while somebody types, and of what is run
+  serial: 0, isDrawing: false, number: undefined,
+  sourceGiven: new Uint8Array(), // the source in what stands at the left
+  listing: null, answer: null, records: null, listed: null, example: null,
+};
+const ROOMS = ["timeline", "answer", "listing", "records", "prompt", "exercises"];
+
+function tell(text, isWrong = false) {
+  find("said").textContent = text;
+  find("said").classList.toggle("wrong", isWrong);
+}
+
+function chooseRoom(name) {
+  for (const each of ROOMS) {
+    find(`room-${each}`).hidden = each !== name;
+    const tab = find(`tab-${each}`);
+    tab.setAttribute("aria-selected", String(each === name));
+    tab.tabIndex = each === name ? 0 : -1;
+  }
+  if (name === "timeline" && shown.run) leadTo(shown.k);
+  if (name === "prompt") find("typed").focus();
+}
+
+// The source in an input: behind the script of `mon`, before the trace of `check`.
+function sourceIn(bytes, reads) {
+  if (reads === "SOURCE") return { source: bytes, line: 0 };
+  const text = reads === "SCRIPT-AND-SOURCE" || reads === "SOURCE-AND-TRACE" ? textOf(bytes) : "";
+  if (reads === "SCRIPT-AND-SOURCE") {
+    const found = /^source\r?\n/m.exec(text);
+    const at = found && found.index + found[0].length;
+    return found && { source: bytesOf(text.slice(at)), line: text.slice(0, at).split("\n").length - 1 };
+  }
+  const at = text.search(/^trace\r?$/m);
+  return at < 0 ? null : { source: bytesOf(text.slice(0, at)), line: 0 };
+}
+
+// Whether what stands at the left is accepted; a refusal is shown at its line, in the program's words.
+function showRefusal({ status, output, told }, from = 0) {
+  const [, line, column, reason] = /^refused (\d+):(\d+) (.*)/.exec(output) ?? [];
+  if (status === 0) {
+    setMarks("refused", []);
+    return false;
+  }
+  if (line) {
+    markRefusal(Number(line) + from, Number(column), reason);
+    tell(`Line ${Number(line) + from}, column ${column}: ${reason}`, true);
+  } else tell(told.trim() || `Status ${status}`, true);
+  return true;
+}
+
+// What is asked while somebody types: `build` of a source, else the command itself, which retires nothing.
+async function isRefused(form, input) {
+  if (form.reads === "" || form.program !== "m88") return false;
+  const isSource = form.reads === "SOURCE", words = isSource ? ["build"] : wordsGiven(form, { ...command.words, LIMIT: "0" });
+  const answer = await askText(workbench.live, words, input);
+  if (isSource) workbench.records.set(bytesOf(answer.status === 0 ? answer.output : ""));
+  return answer.status === 1 ? refuseWord(answer.told) : showRefusal(answer);
+}
+
+// Draws what stands at the left, and chooses an event. A later call takes an earlier one's place.
+async function draw(number) {
+  const serial = ++workbench.serial, isOld = () => serial !== workbench.serial, form = formGiven(), input = editor.bytes;
+  if (workbench.isDrawing) workbench.live.cancel();
+  workbench.isDrawing = true;
+  find("page").classList.add("stale");
+  try {
+    if (await isRefused(form, input) || isOld()) return;
+    await drawRun(form, input, number, isOld);
+    if (!isOld()) await answerAtOnce(form, input, isOld);
+  } catch (error) {
+    if (isOld() || error instanceof Cancelled) return;
+    if (error.status === 1) refuseWord(error.told);
+    else tell(error.message, true);
+  } finally {
+    if (!isOld()) workbench.isDrawing = false;
+  }
+}
+
+async function drawRun(form, input, number, isOld) {
+  const part = input.length <= LONG ? sourceIn(input, form.reads) : null, words = { ...command.words };
+  if (!part) {
+    showRun(null);
+    find("note").textContent = input.length > LONG ? "It is too long to be drawn; Run runs it." : `${form.key} has no timeline.`;
+    return;
+  }
+  const listed = askText(workbench.live, [], part.source, "m88list"), run = await askRun(workbench.live, part.source, words);
+  const listing = await listed;
+  if (isOld()) return;
+  Object.assign(workbench, { sourceGiven: part.source, listing: { ...readListing(listing.output), from: part.line } });
+  workbench.listed.set(bytesOf(listing.output));
+  const { events, records, end } = run.report, put = putOut(run.reportText);
+  const counts = find("hide").checked ? "" : `${many(events, "event")}, ${many(records.size, "data fault")}, ${end}. `;
+  find("note").textContent = `${counts}${put ? `It puts out: ${put.replaceAll("↵\n", "↵")} ` : ""}${run.note}`;
+  refuseWord("");
+  tell("");
+  find("page").classList.remove("stale");
+  showRun(run, number);
+}
+
+// What the command writes, where it takes no long time.
+async function answerAtOnce(form, input, isOld) {
+  const isShort = !form.words.includes("LIMIT") || Number(command.words.LIMIT) <= MOST_RETIRED;
+  if (form.program !== "m88" || !form.reads || input.length > LONG || !isShort) return;
+  const answer = await workbench.live.answer(form.program, wordsGiven(form), input);
+  if (!isOld()) showAnswer(answer, form);
+}
+
+function showAnswer({ status, output, told, time, memory }, form) {
+  workbench.answer.set(output);
+  workbench.output = output;
+  const put = putOut(textOf(output.subarray(0, 4096)));
+  find("put").textContent = put ? `It puts out:\n${put}` : "";
+  find("tab-answer").textContent = { run: "Report", exec: "Report", trace: "Trace", mon: "Session" }[form.fixed[0]] ?? form.key;
+  const took = `${time.toFixed(1)} ms, ${(memory / 1048576).toFixed(1)} MiB`;
+  find("status").textContent = `${[form.program, ...wordsGiven(form)].join(" ")}: status ${status}, ${many(output.length, "byte")}, ${took}`;
+  if (status === 1) refuseWord(textOf(told));
+  find("answer-told").textContent = status === 0 ? "" : textOf(told).trim();
+}
+
+// The command, as it stands. It can be cancelled.
+async function run() {
+  const form = formGiven(), input = editor.bytes;
+  if (!find("cancel").disabled) return;
+  find("cancel").disabled = false;
+  find("run").disabled = true;
+  find("status").textContent = `${form.key} runs.`;
+  chooseRoom("answer");
+  try {
+    const answer = await workbench.long.answer(form.program, wordsGiven(form), input);
+    showAnswer(answer, form);
+    if (answer.status === 4) showRefusal({ ...answer, output: textOf(answer.output), told: textOf(answer.told) });
+  } catch (error) {
+    find("status").textContent = error instanceof Cancelled ? "It was cancelled." : error.message;
+  }
+  find("cancel").disabled = true;
+  find("run").disabled = false;
+}
+
+// Takes a source in, with a command and words, and draws it.
+workbench.take = async ({ name, source, bytes, command: key, words, example = null, number }) => {
+  clearTimeout(workbench.timer);
+  undone.before = [];
+  setCommand(key ?? formGiven().key, words);
+  const said = bytes ? setBytes(bytes, name) : setText(source);
+  clearTimeout(workbench.timer);
+  workbench.example = shown.example = example;
+  find("examples").value = example?.key ?? "";
+  await draw(number);
+  if (said) tell(said);
+};
+
+// The words and the source of an example, as its command in docs/ has them.
+function takeExample(example, number) {
+  const text = EXAMPLES.get(`${example.key.replace(/-.*/, "")}.s`), first = text.indexOf("\nprogram\n") + 1;
+  return workbench.take({ ...formOfShell(example.command), source: first ? text.slice(0, first) : text, example, number });
+}
+
+// Half a second behind the last key.
+function edited({ detail }) {
+  clearTimeout(workbench.timer);
+  workbench.example = shown.example = null;
+  find("page").classList.add("stale");
+  workbench.timer = setTimeout(() => draw(shown.run ? shown.k : undefined), detail === "command" ? 0 : 500);
+}
+
+// ---- What belongs to the chosen event ----------------------------------------------------------------------------------
+
+// The address of the instruction of an event: of what was tried, or of what an answer or a fault ends.
+function instructionOf(run, k) {
+  const c = run.columns[k], [bar] = c.ended;
+  if (bar && !bar.isCut) return run.columns[bar.from].parts[0];
+  return c.letter === "i" && c.kind !== "idle" ? addressAt(run.columns, k) : "";
+}
+
+function markPlaces() {
+  const { run, k } = shown, rows = workbench.listing?.rows, isOwn = run?.ask && rows;
+  const row = (address) => (isOwn && address ? rows.get(address) : undefined);
+  const isLast = run && k + 1 === run.columns.length, here = row(isOwn && instructionOf(run, k));
+  const next = row(isOwn && !isLast && addressAt(run.columns, k + 1));
+  const lineOf = (each) => each.line + workbench.listing.from;
+  setMarks("next", next && next !== here ? [{ line: lineOf(next) }] : []);
+  setMarks("here", here ? [{ line: lineOf(here) }] : []);
+  if (here && document.activeElement !== editor.field) leadToLine(lineOf(here));
+  workbench.listed.mark(here ? [here.at] : []);
+}
+
+// The words of memory that the run touches, with their values around the event.
+async function tellMemory() {
+  const { run, k } = shown, place = find("memory"), addresses = run?.ask ? touchedWords(run, k, 28) : [];
+  if (!addresses.length) {
+    place.innerHTML = "";
+    return;
+  }
+  const touched = new Set([...run.columns[k].ended].map(({ dma }) => dma));
+  const values = await askMemory(workbench.live, workbench.sourceGiven, command.words, k, addresses).catch(() => null);
+  if (!values || shown.run !== run || shown.k !== k) return;
+  place.innerHTML = `<h2>Memory ${whenOf(run.columns[k])}</h2><div class="mono">${values.map(([address, before, now]) => {
+    const name = workbench.listing?.names.get(address), kind = before !== now ? "changed" : touched.has(address) ? "touched" : "";
+    return `<span class="${kind}" title="it had ${before}"><b>${address}</b>${now}${name ? ` <i>${escaped(name)}</i>` : ""}</span>`;
+  }).join("")}</div>`;
+}
+
+// What a handler of the fault must leave, by m88serve, from its record and the words that it names.
+async function serveFault() {
+  const { run } = shown, fault = faultInQuestion(), { epsr, sxip, snip, sfip, ssbr, triples } = fault.record;
+  const addresses = [...new Set(fault.bars.map(({ dma }) => dma))], mem = addresses.map((address) => `mem ${address} 1`);
+  const steps = fault.at > 1 ? [`step ${fault.at - 1}`] : [];
+  const memory = await sessionOf(workbench.live, workbench.sourceGiven, command.words, [...steps, ...mem]);
+  const input = [`epsr ${epsr} sxip ${sxip} snip ${snip} sfip ${sfip} ssbr ${ssbr}`,
+    ...triples.map(({ dmt, dmd, dma }, n) => `t${n} ${dmt} ${dmd} ${dma}`), ...memory.split("\n").filter((each) => each.startsWith("mem ")),
+    ""].join("\n");
+  const { status, output, told } = await askText(workbench.live, [], input, "m88serve");
+  if (shown.run !== run) return;
+  find("served").hidden = false;
+  find("served").textContent = status === 0 ? `${input}\nm88serve:\n${output}` : told;
+}
+
+function tellServe() {
+  const fault = shown.run?.ask && PROGRAMS.includes("m88serve") ? faultInQuestion() : null;
+  find("serve").hidden = !fault?.record;
+  find("served").hidden = true;
+  if (fault) find("serve-it").textContent = `What must a handler leave at fault ${fault.number}?`;
+}
+
+function rememberPlace() {
+  const { example } = workbench;
+  if (example && shown.run?.ask) setAddress(placeHash(example, shown.k, shown.way), false);
+  else setAddress("", false);
+}
+
+// ---- Where the page begins, and where an address leads -----------------------------------------------------------------
+
+async function goToPlace() {
+  const { hash } = location, held = await unpackLink(hash);
+  if (held) {
+    await workbench.take({ name: "the link", source: held.source, command: held.command, words: held.words, number: held.event });
+    return;
+  }
+  const { key, event, way } = placeIn(hash), example = RUNS.find((each) => each.key === key);
+  shown.way = way;
+  await takeExample(example ?? RUNS[0], event);
+  if (hash.startsWith("#v1.")) tell("This link is cut or damaged, so late_fault stands here in its place.", true);
+  else if (key && !example) tell(`No example is named ${key}, so late_fault stands here in its place.`, true);
+  else if (event !== undefined && shown.k !== event) tell(`This run has no event ${event}.`, true);
+}
+
+async function makeLink() {
+  const hash = await packLink({ source: editor.text, command: formGiven().key, words: command.words, event: shown.k });
+  if (!editor.isWhole || hash.length > LINK_MOST) return tell("What stands at the left is too long for a link; a file is better.", true);
+  workbench.example = null;
+  setAddress(hash, true);
+  await navigator.clipboard?.writeText(location.href).catch(() => {});
+  return tell("The address of this page now holds the source, the words and the event; the browser may have copied it.");
+}
+
+function beginTabs() {
+  for (const name of ROOMS) find(`tab-${name}`).addEventListener("click", () => chooseRoom(name));
+  find("tabs").addEventListener("keydown", (event) => {
+    const at = ROOMS.findIndex((name) => find(`tab-${name}`) === event.target), step = { ArrowLeft: -1, ArrowRight: 1 }[event.key];
+    if (at < 0 || !step) return;
+    const name = ROOMS[(at + step + ROOMS.length) % ROOMS.length];
+    chooseRoom(name);
+    find(`tab-${name}`).focus();
+    event.preventDefault();
+  });
+}
+
+function beginButtons() {
+  find("run").addEventListener("click", run);
+  find("cancel").addEventListener("click", () => workbench.long.cancel());
+  find("link").addEventListener("click", makeLink);
+  find("help").addEventListener("click", () => find("helps").showModal());
+  find("serve-it").addEventListener("click", () => serveFault().catch((error) => tell(error.message, true)));
+  find("examples").innerHTML = '<option value="">Examples</option>' +
+    RUNS.map(({ key, title }) => `<option value="${key}">${key}: ${title}</option>`).join("");
+  find("examples").addEventListener("change", ({ target }) => {
+    const example = RUNS.find(({ key }) => key === target.value);
+    if (!example) return;
+    setAddress(placeHash(example, 0, "oldest"), true);
+    shown.way = "oldest";
+    takeExample(example);
+  });
+  find("save-source").addEventListener("click", () => saveFile(editor.file?.name ?? "source.s", editor.bytes, "text/plain"));
+  find("save-answer").addEventListener("click", () => saveFile("m88.txt", workbench.answer.bytes, "text/plain"));
+  find("save-listing").addEventListener("click", () => saveFile("source.lst", workbench.listed.bytes, "text/plain"));
+  find("save-records").addEventListener("click", () => saveFile("source.srec", workbench.records.bytes, "text/plain"));
+  document.addEventListener("keydown", (event) => {
+    if (event.key === "Enter" && (event.ctrlKey || event.metaKey)) run();
+    else if (event.key === "Escape" && !find("cancel").disabled) workbench.long.cancel();
+    else if (event.key === "?" && !isTaken(event)) find("helps").showModal();
+  });
+}
+
+function listen() {
+  document.addEventListener("edited", edited);
+  document.addEventListener("schedule", ({ detail: { schedule, number } }) => {
+    setWords({ SCHEDULE: schedule });
+    workbench.example = shown.example = null;
+    clearTimeout(workbench.timer);
+    draw(number);
+  });
+  let ahead;
+  document.addEventListener("chosen", () => {
+    markPlaces();
+    tellServe();
+    rememberPlace();
+    clearTimeout(ahead);
+    ahead = setTimeout(tellMemory, 30);
+  });
+  window.addEventListener("hashchange", goToPlace);
+}
+
+async function begin() {
+  const why = whyNotRun();
+  beginPicture(find("room"));
+  beginEvents(tell);
+  beginLetters();
+  beginEditor();
+  beginTabs();
+  if (why) return tell(why, true);
+  Object.assign(workbench, { live: new Programs(), long: new Programs() });
+  Object.assign(workbench, { answer: new Pages("answer"), listed: new Pages("listed"), records: new Pages("built") });
+  await beginCommand(workbench.live);
+  beginPrompt(workbench.live);
+  beginExercises((it) => workbench.take(it));
+  beginFiles();
+  beginButtons();
+  listen();
+  await goToPlace();
+  document.body.dataset.ready = "1";
+  return undefined;
+}
+begin().catch((error) => tell(`Nothing can be run: ${error.message}`, true));
