@@ -94,9 +94,7 @@ class Browser:
 
     def columns(self):
         """What the columns of the view say, once all of them are drawn."""
-        return self.value("(async () => { while (document.querySelector('#picture .part:empty'))"
-                          " await new Promise(then => requestAnimationFrame(then));"
-                          "return [...document.querySelectorAll('#picture .column')].map(c => "
+        return self.value("(async () => { drawAll(); return [...document.querySelectorAll('#picture .column')].map(c => "
                           "[...c.querySelectorAll('text')].map(t => t.textContent)); })()")
 
     def press(self, key):
@@ -130,14 +128,17 @@ def session(source, absent, schedule, events, mode=""):
 
 
 def heads():
-    """The heads of the examples that stand in the page, and the short forms of their sessions."""
+    """The examples whose sessions stand in the page, with their words, and the short forms of their sessions."""
+    with open(os.path.join(TOP, "web", "examples.js")) as file:
+        runs = re.search(r"RUNS = `\n(.*?)`", file.read(), re.S).group(1).replace("\\\n", "")
+    known = {line.split(" | ")[0]: line.split(" | ", 7) for line in runs.splitlines()}
     with open(PAGE) as file:
         stored = re.search(r'id="sessions">\n(.*?)</script>', file.read(), re.S).group(1)
     for part in re.split(r"^# ", stored, flags=re.M)[1:]:
-        head, body = part.split("\n", 1)
-        key, absent, schedule, mode, events, page, command = head.split(" | ", 6)
-        yield {"key": key, "absent": absent, "schedule": schedule, "mode": mode, "events": events, "page": page,
-               "command": command, "head": head, "short": body}
+        key, body = part.split("\n", 1)
+        _, title, absent, schedule, mode, events, page, command = known[key]
+        yield {"key": key, "title": title, "absent": absent, "schedule": schedule, "mode": mode.strip(), "events": events,
+               "page": page, "command": command, "short": body}
 
 
 def session_of(head):

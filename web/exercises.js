@@ -9,7 +9,7 @@ function partsOf(text, heading) {
 
 // Paragraphs and indented blocks of a text.
 function blocksOf(text) {
-  return text.split(/\n{2,}/).filter((each) => each.trim()).reduce((out, each) => {
+  return text.replace(/^\n+/, "").split(/\n{2,}/).filter((each) => each.trim()).reduce((out, each) => {
     const isCode = each.startsWith("    "), plain = isCode ? each.replace(/^ {4}/gm, "") : each.trim().replace(/\n/g, " ");
     if (isCode && out.at(-1)?.isCode && !isCommand(out.at(-1).text) && !isCommand(plain)) out.at(-1).text += `\n\n${plain}`;
     else out.push({ isCode, text: plain.replace(/\n+$/, "") });

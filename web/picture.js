@@ -130,9 +130,9 @@ function overviewOf(run, wide) {
 }
 
 let overviewOfRun = null;
-// The thin bar over the run. A fault is a line from top to bottom; where a pixel has several its height says how many.
+// The thin bar over the run. A fault is a line from top to bottom; where they are many, columns at its foot say how many.
 function drawOverview() {
-  const canvas = find("overview"), { run, k } = shown, wide = canvas.clientWidth, high = 26, ratio = window.devicePixelRatio || 1;
+  const canvas = find("overview"), { run, k } = shown, wide = canvas.clientWidth, high = 32, ratio = window.devicePixelRatio || 1;
   if (!run || !wide) return;
   canvas.width = wide * ratio;
   canvas.height = high * ratio;
@@ -141,7 +141,7 @@ function drawOverview() {
   to.scale(ratio, ratio);
   const key = `${wide} ${lastSeen()}`;
   if (overviewOfRun?.run !== run || overviewOfRun.key !== key) overviewOfRun = { run, key, ...overviewOf(run, wide) };
-  const { faults, lanes, most } = overviewOfRun, thick = run.faults.length < wide / 8 ? 3 : 1;
+  const { faults, lanes, most } = overviewOfRun, isFew = run.faults.length < wide / 8;
   for (let lane = 0; lane < 3; lane++) {
     for (let x = 0, end; x < wide; x = end) {
       const is = lanes[lane * wide + x];
@@ -150,14 +150,14 @@ function drawOverview() {
     }
   }
   for (let x = 0; x < wide; x++) {
-    const part = faults[x] / most;
-    if (part) fill("--fault-line", x - (thick - 1) / 2, high * (1 - part) * .8, thick, high);
+    const up = 2 + 8 * faults[x] / most;
+    if (faults[x]) fill("--fault-line", ...(isFew ? [x - 3, 0, 7, high] : [x, high - up, 1, up]));
   }
   const { scrollLeft, clientWidth } = find("picture"), whole = run.columns.length * view().wide * shown.zoom;
   to.globalAlpha = .2;
   fill("--mark", scrollLeft / whole * wide, 0, Math.min(1, (clientWidth - view().left * shown.zoom) / whole) * wide, high);
   to.globalAlpha = 1;
-  fill("--ink", Math.floor((k + .5) / run.columns.length * wide), 0, 2, high);
+  fill("--ink", Math.floor((k + .5) / run.columns.length * wide), 0, 1.5, high);
 }
 
 function mark() {

@@ -243,6 +243,7 @@ async function goToPlace() {
   const { key, event, way } = placeIn(hash), example = RUNS.find((each) => each.key === key);
   shown.way = way;
   await takeExample(example ?? RUNS[0], event);
+  if (!hash) tell("Try this: choose the letter i for event 8. Memory answers later then, and the fault comes later.");
   if (hash.startsWith("#v1.")) tell("This link is cut or damaged, so late_fault stands here in its place.", true);
   else if (key && !example) tell(`No example is named ${key}, so late_fault stands here in its place.`, true);
   else if (event !== undefined && shown.k !== event) tell(`This run has no event ${event}.`, true);
@@ -321,6 +322,7 @@ async function begin() {
   beginLetters();
   beginEditor();
   beginTabs();
+  chooseRoom("timeline");
   if (why) return tell(why, true);
   Object.assign(workbench, { live: new Programs(), long: new Programs() });
   Object.assign(workbench, { answer: new Pages("answer"), listed: new Pages("listed"), records: new Pages("built") });
