@@ -104,14 +104,18 @@ function helpWord({ target }) {
   find("word-help").textContent = helpOf(target.dataset.word).replaceAll("\n", "; ");
 }
 
-async function beginCommand(programs) {
-  for (const program of PROGRAMS) {
-    const { told } = await askText(programs, program === "m88" ? [] : ["?"], "", program);
-    command.forms.push(...formsOf(told));
-    helpsOf(told);
-  }
+// The forms of a program, added to the list.
+async function addForms(programs, program) {
+  const { told } = await askText(programs, program === "m88" ? [] : ["?"], "", program), given = find("command").value;
+  command.forms.push(...formsOf(told));
+  helpsOf(told);
   find("command").innerHTML = command.forms.map(({ key }) =>
     `<option value="${key}">${[key.replace(/^m88 /, ""), PURPOSES[key]].filter(Boolean).join(": ")}</option>`).join("");
+  find("command").value = given || command.forms[0].key;
+}
+
+async function beginCommand(programs) {
+  await addForms(programs, PROGRAMS[0]);
   find("command").addEventListener("change", () => {
     layWords();
     refuseWord("");

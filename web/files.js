@@ -56,8 +56,11 @@ function askAddress(bytes, name) {
   dialog.returnValue = "";
   dialog.showModal();
   return new Promise((resolve) => {
-    dialog.onclose = () => resolve(dialog.returnValue !== "take" ? tell("") :
-      takeRom(bytes, name, ["at", find("address").value.trim() || "0", ...find("entries").value.split(/[\s,]+/).filter(Boolean)]));
+    const takes = {
+      take: () => takeRom(bytes, name, ["at", find("address").value.trim() || "0", ...find("entries").value.split(/[\s,]+/).filter(Boolean)]),
+      source: () => workbench.take({ name, bytes }),
+    };
+    dialog.onclose = () => resolve(takes[dialog.returnValue]?.());
   });
 }
 

@@ -89,7 +89,9 @@ const PROMPTS = {
   mem: (place, n = "1") => carryOut(`mem ${placeOf(place)} ${n}`),
   letters: (text = "-") => {
     const taken = shown.run.columns.slice(1, shown.k + 1).map((c) => c.letter).join("");
-    setSchedule((taken + (text === "-" ? "" : text)) || "-");
+    const schedule = (taken + (text === "-" ? "" : text)) || "-";
+    setSchedule(schedule);
+    say(`the schedule is ${schedule}`);
   },
   help: () => say(PROMPT_HELP),
 };

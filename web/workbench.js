@@ -315,6 +315,9 @@ function listen() {
   window.addEventListener("hashchange", goToPlace);
 }
 
+// The forms of the other programs, which the first screen needs none of.
+const beginOthers = () => (workbench.others ??= Promise.all(PROGRAMS.slice(1).map((program) => addForms(workbench.long, program))));
+
 async function begin() {
   const why = whyNotRun();
   beginPicture(find("room"));
@@ -327,6 +330,7 @@ async function begin() {
   Object.assign(workbench, { live: new Programs(), long: new Programs() });
   Object.assign(workbench, { answer: new Pages("answer"), listed: new Pages("listed"), records: new Pages("built") });
   await beginCommand(workbench.live);
+  if (location.hash.startsWith("#v1.")) await beginOthers();
   beginPrompt(workbench.live);
   beginExercises((it) => workbench.take(it));
   beginFiles();
@@ -334,6 +338,7 @@ async function begin() {
   listen();
   await goToPlace();
   document.body.dataset.ready = "1";
+  await beginOthers();
   return undefined;
 }
 begin().catch((error) => tell(`Nothing can be run: ${error.message}`, true));
