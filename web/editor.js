@@ -104,14 +104,6 @@ function leadToLine(line) {
   }
 }
 
-// Puts the reader to a place of the source.
-function goToLine(line, column = 1) {
-  const lines = editor.text.split("\n"), at = lines.slice(0, line - 1).reduce((sum, text) => sum + text.length + 1, 0) + column - 1;
-  editor.field.focus();
-  editor.field.setSelectionRange(at, at);
-  leadToLine(line);
-}
-
 // A tab leads on as elsewhere, so that nobody is caught here by the keyboard; a new line begins where the last one did.
 function typeLine(event) {
   if (event.key !== "Enter" || event.ctrlKey || event.metaKey || event.shiftKey || editor.field.readOnly) return;

@@ -18,6 +18,12 @@ function choose(k, r = shown.r, isOfRecord = shown.isOfRecord) {
   document.dispatchEvent(new CustomEvent("chosen"));
 }
 
+// What stands after each of some events: at once where it is known, else a promise. The page may know how to ask for it.
+function need(run, first, last) {
+  const isKnown = run.columns.slice(first, last).every((c) => c.pipe);
+  return isKnown || !run.ask ? null : run.ask(first, last);
+}
+
 // What stands after the event, once it is known.
 function tellState() {
   const { run, k } = shown, wanted = need(run, Math.max(0, k - 1), k + 1);
@@ -32,13 +38,17 @@ function tellState() {
 
 const whenOf = (c) => (c.kind === "start" ? "at the start" : `after event ${c.number}`);
 
+// The words of a pipeline or a record, three in a row, of which one is chosen.
+const wordsOf = (pipe, isOfRecord) => ROWS.map((row, r) => `<button type="button" data-r="${r}" aria-pressed="${r === shown.r}">` +
+  `<b>${isOfRecord ? recordName(row) : row.name}</b> ${isEmptyStage(row, pipe) ? "·" : row.word(pipe)}</button>`).join("");
+
 function tellWord() {
   const { run, k, r, isOfRecord } = shown, c = run.columns[k], row = ROWS[r], pipe = isOfRecord ? c.fault.record : c.pipe;
   const name = isOfRecord ? recordName(row) : row.name, where = isOfRecord ? `in record ${c.fault.number}` : whenOf(c);
-  if (!pipe) {
-    find("word").innerHTML = `<h2>${name}, ${where}</h2>`;
-    return;
-  }
+  find("pipeline").innerHTML = `<h2>${isOfRecord ? "Record" : "Pipeline"} ${isOfRecord ? c.fault.number : whenOf(c)}</h2>` +
+    `<div class="mono">${pipe ? wordsOf(pipe, isOfRecord) : ""}</div>`;
+  find("word").innerHTML = `<h2>${name}, ${where}</h2>`;
+  if (!pipe) return;
   const word = row.word(pipe);
   const rows = FIELDS[row.kind](word).map((cells) => `<tr>${cells.map((cell) => `<td>${escaped(cell)}</td>`).join("")}</tr>`);
   find("word").innerHTML = `<h2>${name} <span class="mono">${word}</span>, ${where}</h2>` +
@@ -130,7 +140,7 @@ const KEYS = {
 const KEYS_OF_PICTURE = {
   ArrowUp: () => chooseWord(-1), ArrowDown: () => chooseWord(1),
   Home: () => choose(0), End: () => choose(shown.run.columns.length - 1),
-  PageUp: () => choose(shown.k - view().part), PageDown: () => choose(shown.k + view().part),
+  PageUp: () => choose(shown.k - PART), PageDown: () => choose(shown.k + PART),
 };
 
 // Whether a key belongs to what has the focus: a field, a list, a choice or a tab.
@@ -155,6 +165,10 @@ function beginEvents(say) {
     shown.way = event.target.value;
     tellWrong();
     document.dispatchEvent(new CustomEvent("chosen"));
+  });
+  find("pipeline").addEventListener("click", ({ target }) => {
+    const r = target.closest("button")?.dataset.r;
+    if (r !== undefined) choose(shown.k, Number(r));
   });
   document.addEventListener("keydown", pressKey);
   find("back").addEventListener("click", () => choose(shown.k - 1));

@@ -5,35 +5,24 @@ const isOfText = (bytes) => !bytes.subarray(0, 4096).some((each) => each < 32 &&
 const begins = (bytes, ...first) => first.every((each, n) => bytes[n] === each);
 
 // The kind of a file, and what is said of one that can't be taken.
-function kindOf(bytes) {
-  const text = textOf(bytes.subarray(0, 4096));
+function kindOfFile(bytes) {
   if (begins(bytes, 0xFF, 0xFE) || begins(bytes, 0xFE, 0xFF)) return { why: "is in UTF-16. Save it as ASCII or UTF-8" };
   if (begins(bytes, 0xEF, 0xBB, 0xBF)) return { kind: "source", from: 3 };
   if (begins(bytes, 0x7F, 0x45, 0x4C, 0x46)) return { why: "is an ELF file. Records are made of it by `objcopy -O srec`" };
-  if (/^\s*S[0-9][0-9A-Fa-f]{2}/.test(text)) return { kind: "records" };
-  if (!isOfText(bytes)) return { kind: "binary" };
-  if (/^\d+ [0-9A-F]{8} [0-9A-F]{8}/.test(text)) return { kind: "trace" };
-  if (/^epsr [0-9A-F]{8} /.test(text)) return { kind: /^\d+ [ire] /m.test(textOf(bytes)) ? "session" : "fault" };
-  if (/^end (limit|exit at|vector)/.test(text)) return { why: "is the report of a run, which needs its source to be drawn" };
-  if (/^refused \d+:\d+ /.test(text)) return { why: "is the answer of a program that refused its input" };
-  if (/^object \S+\n/.test(text)) return { kind: "objects" };
-  if (/^source\r?$/m.test(textOf(bytes)) && /^(step|trace|go|break|regs|pipe|mem|drain)\b/.test(text)) return { kind: "script" };
-  return { kind: /^program\r?$/m.test(textOf(bytes)) ? "programs" : "source" };
+  const kind = isOfText(bytes) ? kindOf(textOf(bytes)) : "binary";
+  if (kind === "report") return { why: "is the report of a run, which needs its source to be drawn" };
+  return kind === "answer" ? { why: "is the answer of a program that refused its input" } : { kind };
 }
 
-const COMMANDS_OF = { objects: "m88 link", script: "m88 mon", programs: "m88 share" };
-
+const taker = (command) => (bytes, name) => workbench.take({ name, bytes, command });
 const TAKERS = {
-  source: (bytes, name) => workbench.take({ name, bytes }),
-  objects: (bytes, name) => workbench.take({ name, bytes, command: COMMANDS_OF.objects }),
-  script: (bytes, name) => workbench.take({ name, bytes, command: COMMANDS_OF.script }),
-  programs: (bytes, name) => workbench.take({ name, bytes, command: COMMANDS_OF.programs }),
+  source: taker(), objects: taker("m88 link"), script: taker("m88 mon"), programs: taker("m88 share"),
   records: (bytes, name) => takeRom(bytes, name, []),
   binary: askAddress, trace: takeTrace, fault: takeFault, session: takeSession,
 };
 
 async function openFile(bytes, name) {
-  const { kind, why, from = 0 } = kindOf(bytes);
+  const { kind, why, from = 0 } = kindOfFile(bytes);
   if (why) return tell(`${name} ${why}.`, true);
   try {
     return await TAKERS[kind](bytes.subarray(from), name);

@@ -2,9 +2,8 @@
 // The picture of a run on the page: its parts, the thin bar over it, what marks the chosen event, zoom, and what hides the rest.
 
 const find = (id) => document.getElementById(id);
-// What is shown: a run, the example that it is of, the view, the chosen event with its word, and the wrong way that is compared.
-const shown = { run: null, example: null, view: "timeline", k: 0, r: ROW.XIP, isOfRecord: false, way: "oldest", zoom: 1 };
-const view = () => VIEWS[shown.view];
+// What is shown: a run, the example that it is of, the chosen event with its word, and the wrong way that is compared.
+const shown = { run: null, example: null, k: 0, r: ROW.XIP, isOfRecord: false, way: "oldest", zoom: 1 };
 const ZOOMS = [.35, .5, .7, 1, 1.4, 2];
 const later = window.requestIdleCallback ?? ((work) => setTimeout(() => work({ timeRemaining: () => 8 }), 1));
 const never = window.cancelIdleCallback ?? clearTimeout;
@@ -24,9 +23,6 @@ const ROOM = `
   <div id="picture" tabindex="0" role="application" aria-describedby="sentence keys"
     aria-label="Picture of the run. Arrow keys choose an event and a word, n and p lead to faults."></div>
   <div class="row screen" id="ways">
-    <span class="pair" role="group" aria-label="View">
-      <button id="timeline" type="button">Timeline</button><button id="words" type="button">Words</button>
-    </span>
     <span class="pair" role="group" aria-label="Zoom">
       <button id="smaller" type="button" aria-label="Smaller">&#8722;</button><button id="larger" type="button" aria-label="Larger">+</button>
     </span>
@@ -37,22 +33,20 @@ const ROOM = `
   </div>
   <p id="key"></p>`;
 
-const countParts = () => (shown.run ? Math.ceil(shown.run.columns.length / view().part) : 0);
+const countParts = () => (shown.run ? Math.ceil(shown.run.columns.length / PART) : 0);
 const FEW_PARTS = 100; // So many are all drawn, for a search in the page; of more those alone that are in view.
 const parts = new Map();
 let drawer = 0;
 
 // The picture stands in parts of some columns. Those that come into view are drawn at once.
 function layPicture() {
-  const { run, zoom } = shown, { wide, left, height, names } = view(), high = height(run), scrolled = find("picture").scrollLeft;
+  const { run, zoom } = shown, high = timelineHeight(run), scrolled = find("picture").scrollLeft;
   parts.clear();
   never(drawer);
-  const width = run.columns.length * wide * zoom + left * zoom;
+  const width = (run.columns.length * WIDE + NAMES) * zoom;
   find("picture").innerHTML = `<div id="strip" style="width: ${width}px; height: ${high * zoom}px">` +
-    `${opened(left, high, ' id="names"', 0, zoom)}<g id="named">${names(run)}</g></svg><div id="marks"></div></div>`;
+    `${opened(NAMES, high, ' id="names"', 0, zoom)}<g id="named">${timelineNames(run)}</g></svg><div id="marks"></div></div>`;
   find("picture").scrollLeft = scrolled;
-  find("key").innerHTML = shown.view === "timeline" ? KEY : "";
-  for (const name of Object.keys(VIEWS)) find(name).setAttribute("aria-pressed", String(name === shown.view));
   find("smaller").disabled = zoom === ZOOMS[0];
   find("larger").disabled = zoom === ZOOMS.at(-1);
   drawSeen();
@@ -61,34 +55,21 @@ function layPicture() {
 
 function drawPart(n) {
   if (n < 0 || n >= countParts() || parts.has(n)) return;
-  const { run, zoom } = shown, { wide, part, left, height } = view(), first = n * part;
-  const last = Math.min(first + part, run.columns.length), place = document.createElement("div"), width = (last - first) * wide * zoom;
+  const { run, zoom } = shown, first = n * PART, last = Math.min(first + PART, run.columns.length), high = timelineHeight(run);
+  const place = document.createElement("div"), width = (last - first) * WIDE;
   place.className = "part";
-  place.style = `left: ${(left + first * wide) * zoom}px; width: ${width}px; height: ${height(run) * zoom}px`;
+  place.style = `left: ${(NAMES + first * WIDE) * zoom}px; width: ${width * zoom}px; height: ${high * zoom}px`;
+  place.innerHTML = opened(NAMES, high, ' class="names" aria-hidden="true"', 0, zoom) + '<use href="#named"/></svg>' +
+    opened(width, high, "", first * WIDE, zoom) + timelinePart(run, first, last) + "</svg>";
   parts.set(n, place);
   const before = [...parts.keys()].filter((other) => other < n).sort((a, b) => b - a)[0];
   (before === undefined ? find("names") : parts.get(before)).after(place);
-  fillPart(n);
-}
-
-function fillPart(n) {
-  const { run, zoom } = shown, { wide, part, left, height, draw, needs } = view(), place = parts.get(n), high = height(run);
-  const first = n * part, last = Math.min(first + part, run.columns.length), wanted = needs && need(run, first, last);
-  place.innerHTML = opened(left, high, ' class="names" aria-hidden="true"', 0, zoom) + '<use href="#named"/></svg>' +
-    opened((last - first) * wide, high, "", first * wide, zoom) + draw(run, first, last) + "</svg>";
-  wanted?.then(() => { if (parts.get(n) === place) fillPart(n); }, () => {});
   if (find("hide").checked) veil(place);
-}
-
-// What stands after each of some events: at once where it is known, else a promise. The page may know how to ask for it.
-function need(run, first, last) {
-  const isKnown = run.columns.slice(first, last).every((c) => c.pipe);
-  return isKnown || !run.ask ? null : run.ask(first, last);
 }
 
 function drawSeen() {
   if (!shown.run) return;
-  const wide = view().part * view().wide * shown.zoom, { scrollLeft, clientWidth } = find("picture");
+  const wide = PART * WIDE * shown.zoom, { scrollLeft, clientWidth } = find("picture");
   const first = Math.floor(scrollLeft / wide) - 1, last = Math.ceil((scrollLeft + clientWidth) / wide) + 1;
   for (let n = first; n < last; n++) drawPart(n);
   if (countParts() > FEW_PARTS) {
@@ -153,19 +134,20 @@ function drawOverview() {
     const up = 2 + 8 * faults[x] / most;
     if (faults[x]) fill("--fault-line", ...(isFew ? [x - 3, 0, 7, high] : [x, high - up, 1, up]));
   }
-  const { scrollLeft, clientWidth } = find("picture"), whole = run.columns.length * view().wide * shown.zoom;
+  const { scrollLeft, clientWidth } = find("picture"), whole = run.columns.length * WIDE * shown.zoom;
   to.globalAlpha = .2;
-  fill("--mark", scrollLeft / whole * wide, 0, Math.min(1, (clientWidth - view().left * shown.zoom) / whole) * wide, high);
+  fill("--mark", scrollLeft / whole * wide, 0, Math.min(1, (clientWidth - NAMES * shown.zoom) / whole) * wide, high);
   to.globalAlpha = 1;
   fill("--ink", Math.floor((k + .5) / run.columns.length * wide), 0, 1.5, high);
 }
 
 function mark() {
-  const { run, k, r, isOfRecord, zoom } = shown, { wide, left, places, frame } = view();
-  const around = ({ x, y, w, h }, name) => `<div class="${name}" style="left: ${(x + left) * zoom}px; top: ${y * zoom}px; ` +
+  const { run, k, r, isOfRecord, zoom } = shown;
+  const around = ({ x, y, w, h }, name) => `<div class="${name}" style="left: ${(x + NAMES) * zoom}px; top: ${y * zoom}px; ` +
     `width: ${w * zoom}px; height: ${h * zoom}px"></div>`;
-  const hidden = find("hide").checked ? laterOf(run, k) : [], words = places(run, k, r, isOfRecord);
-  find("marks").innerHTML = [...hidden.map((place) => around(place, "later")), around({ x: k * wide, y: 0, w: wide, h: frame(run) }, "event"),
+  const hidden = find("hide").checked ? laterOf(run, k) : [], words = timelinePlaces(run, k, r, isOfRecord);
+  const event = around({ x: k * WIDE, y: 0, w: WIDE, h: EVENTS_END + 4 }, "event");
+  find("marks").innerHTML = [...hidden.map((place) => around(place, "later")), event,
     ...words.map((place) => around(place, "word"))].join("");
   if (find("hide").checked) veil(find("picture"));
 }
@@ -179,16 +161,15 @@ function veil(place) {
 
 // What comes after an event, so that a class may guess: all to its right, but for the record of a fault that is reached.
 function laterOf(run, k) {
-  const { wide, frame, height, recordReach } = view(), x = (k + 1) * wide, end = run.columns.length * wide, top = frame(run);
+  const x = (k + 1) * WIDE, end = run.columns.length * WIDE, top = EVENTS_END + 4;
   const reached = run.faults.filter((fault) => fault.at <= k).at(-1);
-  const from = Math.max(x, reached ? reached.at * wide + recordReach : 0), below = height(run) - top;
+  const from = Math.max(x, reached ? reached.at * WIDE + RECORD_REACH : 0), below = timelineHeight(run) - top;
   return [{ x, y: 0, w: end - x, h: top }, { x: from, y: top, w: end - from, h: below }].filter(({ w, h }) => w > 0 && h > 0);
 }
 
 // Brings an event into view, some columns from the edge.
 function leadTo(k) {
-  const { zoom } = shown, wide = view().wide * zoom, picture = find("picture"), x = k * wide;
-  const room = picture.clientWidth - view().left * zoom;
+  const { zoom } = shown, wide = WIDE * zoom, picture = find("picture"), x = k * wide, room = picture.clientWidth - NAMES * zoom;
   const ahead = Math.min(2 * wide, Math.max(0, (room - wide) / 2));
   if (x < picture.scrollLeft + ahead * .5 || x + wide > picture.scrollLeft + room - ahead * .5) {
     picture.scrollLeft = Math.max(0, x - (room - wide) / 2);
@@ -196,16 +177,10 @@ function leadTo(k) {
   drawSeen();
 }
 
-function chooseView(name) {
-  shown.view = name;
-  if (!shown.run) return;
-  layPicture();
-  choose(shown.k);
-}
-
 function chooseZoom(step) {
   shown.zoom = ZOOMS[Math.max(0, Math.min(ZOOMS.length - 1, ZOOMS.indexOf(shown.zoom) + step))];
-  chooseView(shown.view);
+  layPicture();
+  choose(shown.k);
 }
 
 // A file with what is handed over, for the reader to keep.
@@ -227,16 +202,16 @@ function followOverview(event) {
 // A click chooses what is below it, by its place.
 function clickPicture(event) {
   if (!shown.run || find("names").contains(event.target)) return;
-  const corner = find("strip").getBoundingClientRect(), { left, wide, wordAt } = view(), { zoom } = shown;
-  const x = (event.clientX - corner.left) / zoom - left, y = (event.clientY - corner.top) / zoom, k = Math.floor(x / wide);
+  const corner = find("strip").getBoundingClientRect(), { zoom } = shown;
+  const x = (event.clientX - corner.left) / zoom - NAMES, y = (event.clientY - corner.top) / zoom, k = Math.floor(x / WIDE);
   if (k < 0 || k >= shown.run.columns.length) return;
-  const word = wordAt(shown.run, k, x, y);
+  const word = timelineWordAt(shown.run, k, x, y);
   if (word) choose(word.k, word.r, Boolean(word.isOfRecord));
 }
 
 function beginPicture(place) {
   place.innerHTML = ROOM;
-  for (const name of Object.keys(VIEWS)) find(name).addEventListener("click", () => chooseView(name));
+  find("key").innerHTML = KEY;
   find("smaller").addEventListener("click", () => chooseZoom(-1));
   find("larger").addEventListener("click", () => chooseZoom(1));
   find("overview").addEventListener("pointerdown", followOverview);
@@ -248,6 +223,6 @@ function beginPicture(place) {
   matchMedia("(prefers-color-scheme: dark)").addEventListener("change", drawOverview);
   find("print").addEventListener("click", () => window.print());
   find("save-picture").addEventListener("click", () => {
-    if (shown.run) saveFile(`${shown.example?.key ?? "run"}.svg`, drawing(shown.run, view()) + "\n", "image/svg+xml");
+    if (shown.run) saveFile(`${shown.example?.key ?? "run"}.svg`, drawing(shown.run) + "\n", "image/svg+xml");
   });
 }

@@ -41,13 +41,10 @@ function runOfSession(text) {
   return run;
 }
 
-// What a text is that is no session, where that can be seen.
-function foreignText(text) {
-  if (/^\uFFFD\uFFFD|\0/.test(text.slice(0, 200))) return "it isn't in ASCII or UTF-8, but perhaps in UTF-16: save it as UTF-8";
-  if (/^end (limit|exit|vector)/.test(text)) return "it is the report of a run: contrib/session writes what is drawn here";
-  if (/^refused \d+:\d+ /.test(text)) return "the program refused its input, and this is its answer";
-  if (/^S[0-9]{3}/.test(text)) return "these are S-records: contrib/session draws a source, which m88source makes of them";
-  if (/^\d+ [0-9A-F]{8} [0-9A-F]{8}/.test(text)) return "it is a trace of instructions: contrib/session writes what is drawn here";
-  if (/^source\r?$/m.test(text)) return "it is a script for m88 mon: contrib/session writes what is drawn here";
-  return "";
-}
+// What a text is, by its first lines.
+const KINDS = {
+  records: /^\s*S[0-9][0-9A-Fa-f]{2}/, trace: /^\d+ [0-9A-F]{8} [0-9A-F]{8}/, report: /^end (limit|exit at|vector)/,
+  answer: /^refused \d+:\d+ /, objects: /^object \S+\n/, session: /^epsr [^]*^\d+ [ire] /m, fault: /^epsr [0-9A-F]{8} /,
+  script: /^(step|trace|go|break|regs|pipe|mem|drain)\b[^]*^source\r?$/m, programs: /^program\r?$/m,
+};
+const kindOf = (text) => Object.keys(KINDS).find((kind) => KINDS[kind].test(text)) ?? "source";

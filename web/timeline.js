@@ -1,5 +1,5 @@
 "use strict";
-// How a run is drawn: as bars over its events, or as the words of the pipeline after each event.
+// How a run is drawn: events run to the right, and what lasts is a bar.
 
 const LINE = 14, CHARACTER = 6.65;
 const escaped = (s) => String(s).replace(/[&<>"]/g, (c) => ({ "&": "&amp;", "<": "&lt;", ">": "&gt;", '"': "&quot;" })[c]);
@@ -15,8 +15,6 @@ const opened = (width, height, more = "", left = 0, zoom = 1) =>
   `<svg xmlns="http://www.w3.org/2000/svg"${more} width="${width * zoom}" height="${height * zoom}"` +
   ` viewBox="${left} 0 ${width} ${height}"` +
   ` font-size="11" font-family="ui-monospace, SFMono-Regular, 'DejaVu Sans Mono', Menlo, Consolas, monospace" fill="var(--ink)">`;
-
-// ---- The timeline: events run to the right, and what lasts is a bar ------------------------------------------------
 
 const WIDE = 70;
 const leftOf = (k) => k * WIDE, middleOf = (k) => k * WIDE + WIDE / 2;
@@ -303,102 +301,17 @@ const KEY = (() => {
     swatch("--bubble", "--bubble-line", "a bubble passed over", ' stroke-dasharray="4 2"');
 })();
 
-// ---- The words: a column for each event, with the pipeline after it ------------------------------------------------
-
-const BROAD = 110, HIGH = 18, WORDS_TOP = 4 * HIGH;
-const wordTop = (r) => WORDS_TOP + r * HIGH + [2, 5, 8, 11].filter((n) => r > n).length * 8;
-const WORDS_RECORD = wordTop(ROWS.length) + 8;
-const wordsHeight = (run) => WORDS_RECORD + HIGH + (run.faults.length ? (RECORD.length + 1) * HIGH + 12 : 8);
-const HUES = {
-  answer: "--answer", fault: "--fault", evict: "--evict", end: "--evict", bubble: "--bubble",
-  idle: "--idle", busy: "--idle", full: "--idle", sync: "--idle",
-};
-
-const happened = (c) => (c.kind === "start" ? ["at the start"] : c.kind === "issue" ? [`issue ${c.parts[0]}`, c.parts[1]] :
-  c.kind === "output" ? [`output ${c.parts[0]}`, c.parts[1]] : [c.kind, c.parts.join(" ")]);
-
-function wordText(word, kind) {
-  if (kind !== "pointer") return word;
-  const p = pointer(word);
-  return `${p.address} ${p.v ? "V" : "-"}${p.e ? "E" : "-"}`;
-}
-
-function wordFill(row, pipe) {
-  if (row.stage !== undefined) {
-    const f = fieldsOf(pipe.triples[row.stage].dmt);
-    return f.valid ? (f.write ? "--store" : "--load") : null;
-  }
-  if (row.kind === "pointer") return pointer(row.word(pipe)).v || row.name === "XIP" ? null : "--bubble";
-  return row.kind === "scoreboard" && value(row.word(pipe)) ? "--load" : null;
-}
-
-function wordsColumn(c, x) {
-  const out = ['<g class="column">', box(x + 2, 2, BROAD - 4, WORDS_TOP - HIGH + 2, `var(${HUES[c.kind] ?? "--band"})`, ' rx="4"')];
-  out.push(put(x + 8, 16, c.kind === "start" ? "" : `${c.number} ${c.letter}`, BOLD));
-  happened(c).forEach((text, n) => out.push(put(x + 8, 32 + n * 15, cut(text, BROAD - 14))));
-  if (!c.pipe) return out.join("") + put(x + 8, wordTop(0) + 13, "…", SOFT) + "</g>";
-  ROWS.forEach((row, r) => {
-    const y = wordTop(r), fill = wordFill(row, c.pipe), isEmpty = isEmptyStage(row, c.pipe);
-    if (fill) out.push(box(x + 2, y, BROAD - 4, HIGH - 2, `var(${fill})`));
-    out.push(put(x + 8, y + 13, isEmpty ? "·" : wordText(row.word(c.pipe), row.kind), isEmpty ? SOFT : ""));
-  });
-  const waiting = waitingIn(c.pipe.ssbr).map((r) => `r${r}`).join(" ");
-  if (waiting) out.push(put(x + 8, WORDS_RECORD + 8, cut(waiting, BROAD - 14), SOFT));
-  if (c.fault) out.push(wordsRecord(c.fault, x));
-  return out.join("") + "</g>";
-}
-
-const wordsRecordTop = (n) => WORDS_RECORD + HIGH + 6 + (n + 1) * HIGH;
-
-function wordsRecord(fault, x) {
-  const y = WORDS_RECORD + HIGH, texts = fault.record ? RECORD.map((r) => recordText(ROWS[r], fault.record)) : ["not in the text"];
-  return box(x + 2, y, BROAD - 4, (RECORD.length + 1) * HIGH + 8, "var(--fault)", ' rx="4" stroke="var(--fault-line)"') +
-    put(x + 8, y + 16, `record ${fault.number}`, BOLD) + texts.map((text, n) => put(x + 8, wordsRecordTop(n) + 13, text)).join("");
-}
-
-function wordsNames(run) {
-  return put(8, 16, "event", BOLD) + ROWS.map((row, r) => put(8, wordTop(r) + 13, row.name, SOFT)).join("") +
-    put(8, WORDS_RECORD + 8, "waiting", SOFT) + (run.faults.length ? put(8, WORDS_RECORD + HIGH + 16, "record", SOFT) : "");
-}
-
-function wordsPart(run, first, last) {
-  const rules = [0, 3, 6, 9, 12].map((r) => path(`M${first * BROAD} ${wordTop(r) - 5}H${last * BROAD}`, "var(--line)"));
-  return rules.join("") + run.columns.slice(first, last).map((c, n) => wordsColumn(c, (first + n) * BROAD)).join("");
-}
-
-function wordsWordAt(run, k, x, y) {
-  const r = ROWS.findIndex((_, n) => y >= wordTop(n) && y < wordTop(n) + HIGH);
-  if (r >= 0) return { k, r };
-  const n = RECORD.findIndex((_, m) => y >= wordsRecordTop(m) && y < wordsRecordTop(m) + HIGH);
-  return n >= 0 && run.columns[k].fault?.record ? { k, r: RECORD[n], isOfRecord: true } : null;
-}
-
-function wordsPlaces(run, k, r, isOfRecord) {
-  return [{ x: k * BROAD + 1, y: isOfRecord ? wordsRecordTop(RECORD.indexOf(r)) : wordTop(r) - 1, w: BROAD - 2, h: HIGH }];
-}
-
-// A view: how wide an event is, how many of them a part of the picture and a page of paper have, how wide the names of the
-// rows are, how high the box around an event is, how far a record reaches, how all is drawn, and whether it needs the pipelines.
-const VIEWS = {
-  timeline: {
-    wide: WIDE, part: 13, left: 92, height: timelineHeight, frame: () => EVENTS_END + 4,
-    names: timelineNames, draw: timelinePart, wordAt: timelineWordAt, places: timelinePlaces,
-    recordReach: WIDE / 2 + RECORD_WIDE + 4,
-  },
-  words: {
-    wide: BROAD, part: 8, left: 72, height: wordsHeight, frame: (run) => wordsHeight(run) - 2,
-    names: wordsNames, draw: wordsPart, wordAt: wordsWordAt, places: wordsPlaces, recordReach: BROAD, needs: true,
-  },
-};
+// How many columns a part of the picture and a page of paper have, how wide the names of the rows are, how far a record reaches.
+const PART = 13, NAMES = 92, RECORD_REACH = WIDE / 2 + RECORD_WIDE + 4;
 
 // The whole picture as one SVG for a file, in the colours of paper.
-function drawing(run, view) {
-  const width = run.columns.length * view.wide + 8, height = view.height(run), probe = document.createElement("div");
+function drawing(run) {
+  const width = run.columns.length * WIDE + 8, height = timelineHeight(run), probe = document.createElement("div");
   probe.className = "paper";
   document.body.append(probe);
   const colours = getComputedStyle(probe);
-  const svg = opened(width + view.left, height, "", -view.left) + box(-view.left, 0, width + view.left, height, "var(--paper)") +
-    `<g transform="translate(${-view.left} 0)">${view.names(run)}</g>` + view.draw(run, 0, run.columns.length) + "</svg>";
+  const svg = opened(width + NAMES, height, "", -NAMES) + box(-NAMES, 0, width + NAMES, height, "var(--paper)") +
+    `<g transform="translate(${-NAMES} 0)">${timelineNames(run)}</g>` + timelinePart(run, 0, run.columns.length) + "</svg>";
   const painted = svg.replace(/var\((--[a-z-]+)\)/g, (_, name) => colours.getPropertyValue(name).trim());
   probe.remove();
   return painted;

@@ -68,9 +68,13 @@ async function draw(number) {
   workbench.isDrawing = true;
   find("page").classList.add("stale");
   try {
-    if (await isRefused(form, input) || isOld()) return;
-    await drawRun(form, input, number, isOld);
-    if (!isOld()) await answerAtOnce(form, input, isOld);
+    const refused = isRefused(form, input), drawn = askDrawn(form, input);
+    drawn.catch(() => {});
+    if (await refused || isOld()) return;
+    const found = await drawn;
+    if (isOld()) return;
+    drawRun(form, found, number);
+    await answerAtOnce(form, input, isOld);
   } catch (error) {
     if (isOld() || error instanceof Cancelled) return;
     if (error.status === 1) refuseWord(error.told);
@@ -80,18 +84,24 @@ async function draw(number) {
   }
 }
 
-async function drawRun(form, input, number, isOld) {
-  const part = input.length <= LONG ? sourceIn(input, form.reads) : null, words = { ...command.words };
-  if (!part) {
+// The run and the listing of the source in an input, or null where there is none to be drawn.
+async function askDrawn(form, input) {
+  const part = input.length <= LONG ? sourceIn(input, form.reads) : null;
+  if (!part) return null;
+  const [run, { output }] = await Promise.all([askRun(workbench.live, part.source, { ...command.words }),
+    askText(workbench.live, [], part.source, "m88list")]);
+  return { ...part, run, listing: output };
+}
+
+function drawRun(form, found, number) {
+  if (!found) {
     showRun(null);
-    find("note").textContent = input.length > LONG ? "It is too long to be drawn; Run runs it." : `${form.key} has no timeline.`;
+    find("note").textContent = editor.bytes.length > LONG ? "It is too long to be drawn; Run runs it." : `${form.key} has no timeline.`;
     return;
   }
-  const listed = askText(workbench.live, [], part.source, "m88list"), run = await askRun(workbench.live, part.source, words);
-  const listing = await listed;
-  if (isOld()) return;
-  Object.assign(workbench, { sourceGiven: part.source, listing: { ...readListing(listing.output), from: part.line } });
-  workbench.listed.set(bytesOf(listing.output));
+  const { run, source, line, listing } = found;
+  Object.assign(workbench, { sourceGiven: source, listing: { ...readListing(listing), from: line } });
+  workbench.listed.set(bytesOf(listing));
   const { events, records, end } = run.report, put = putOut(run.reportText);
   const counts = find("hide").checked ? "" : `${many(events, "event")}, ${many(records.size, "data fault")}, ${end}. `;
   find("note").textContent = `${counts}${put ? `It puts out: ${put.replaceAll("↵\n", "↵")} ` : ""}${run.note}`;

@@ -24,6 +24,7 @@ function doneLine(bar) {
   return line(bar.write ? bytesAt(bar) : `r${bar.dreg}`, right, right);
 }
 
+const NAMES_REGISTER = Array.from({ length: 32 }, (_, r) => new RegExp(`\\br${r}\\b`));
 // Whether an instruction uses or writes a register, by its text: the names there, the second half of a double, the link
 // register of a call, and what the monitor's trap reads.
 function namesRegister(c, r) {
@@ -32,7 +33,7 @@ function namesRegister(c, r) {
   if (c.kind !== "issue") return false;
   const text = c.parts[1], double = /^(?:ld|st)\.d\S* r(\d+)/.exec(text);
   const isSecond = double !== null && Number(double[1]) + 1 === r, isLink = r === 1 && /^(bsr|jsr)/.test(text);
-  return isSecond || isLink || new RegExp(`\\br${r}\\b`).test(text);
+  return isSecond || isLink || NAMES_REGISTER[r].test(text);
 }
 
 // The first later instruction that registers which wait for ever would hold: its line, and what becomes of the program.
