@@ -105,7 +105,7 @@ class Browser:
         """Clicks at a place of the picture, in its own measures."""
         self.value("(() => { const corner = find('strip').getBoundingClientRect();"
                    "find('picture').dispatchEvent(new MouseEvent('click', { bubbles: true,"
-                   f"clientX: corner.left + view().left + {x}, clientY: corner.top + {y} }})); }})()")
+                   f"clientX: corner.left + NAMES + {x}, clientY: corner.top + {y} }})); }})()")
         return self.text("word")
 
     def close(self):

@@ -65,16 +65,7 @@ function layWords() {
   find("command").title = PURPOSES[formGiven().key] ?? "";
 }
 
-// Words that come from elsewhere: an example, a link, a letter that is set.
-function setWords(words) {
-  Object.assign(command.words, words);
-  for (const field of find("fields").querySelectorAll("input")) {
-    const word = command.words[field.dataset.word] ?? "";
-    if (field.type === "checkbox") field.checked = word !== "";
-    else if (field.value !== word) field.value = word;
-  }
-}
-
+// A command and words that come from elsewhere: an example, a link, a letter that is set.
 function setCommand(key, words = {}) {
   if (command.forms.some((form) => form.key === key)) find("command").value = key;
   Object.assign(command.words, words);
@@ -91,8 +82,7 @@ function wordTyped({ target }) {
 function refuseWord(told) {
   const name = /^m88\w*(?: \w+)?: (\w+) can't be/m.exec(told)?.[1];
   for (const field of find("fields").querySelectorAll("input")) {
-    const isWrong = field.dataset.word === name;
-    field.setAttribute("aria-invalid", String(isWrong));
+    field.setAttribute("aria-invalid", String(field.dataset.word === name));
   }
   find("word-help").classList.toggle("wrong", told !== "");
   find("word-help").textContent = told && `✗ ${told.split("\n").filter((each) => each && !each.startsWith("usage")).join(". ")}`;

@@ -11,10 +11,10 @@ const editor = {
   lines: 1,
   get field() { return find("source"); },
   get text() { return this.field.value; },
+  get isWhole() { return !this.field.readOnly; },
   // The input: the bytes of the file that was opened, while its text stands there as it was laid. A field has LF for each CR LF,
   // and no place for bytes that are no text.
   get bytes() { return this.file?.text === this.field.value ? this.file.bytes : bytesOf(this.field.value); },
-  get isWhole() { return !this.field.readOnly; },
 };
 
 function setText(text) {
@@ -104,18 +104,8 @@ function leadToLine(line) {
   }
 }
 
-// A tab leads on as elsewhere, so that nobody is caught here by the keyboard; a new line begins where the last one did.
-function typeLine(event) {
-  if (event.key !== "Enter" || event.ctrlKey || event.metaKey || event.shiftKey || editor.field.readOnly) return;
-  const { value: text, selectionStart: at, selectionEnd } = editor.field, line = text.slice(text.lastIndexOf("\n", at - 1) + 1, at);
-  event.preventDefault();
-  editor.field.setRangeText(`\n${/^[ \t]*/.exec(line)[0]}`, at, selectionEnd, "end");
-  sourceChanged();
-}
-
 function beginEditor() {
   editor.field.addEventListener("input", sourceChanged);
   editor.field.addEventListener("scroll", drawEditor);
-  editor.field.addEventListener("keydown", typeLine);
   new ResizeObserver(drawEditor).observe(editor.field);
 }

@@ -106,9 +106,8 @@ const WRONG = `
 
 // An event by its number; whether there is one.
 function goToEvent(number) {
-  const { run } = shown, first = run.columns[0], least = first.number ?? run.columns[1]?.number - 1;
-  const k = number - (Number.isNaN(least) ? 0 : least);
-  if (!Number.isInteger(k) || k < 0 || k >= run.columns.length) return false;
+  const k = number - Number(find("event").min);
+  if (!Number.isInteger(k) || k < 0 || k >= shown.run.columns.length) return false;
   chooseEvent(k);
   return true;
 }
@@ -190,7 +189,6 @@ function beginEvents(say) {
 
 // Takes a run in, and chooses its first fault, or an event by its number.
 function showRun(run, number) {
-  never(drawer);
   shown.run = run;
   find("page").classList.toggle("empty", !run);
   if (!run) return;

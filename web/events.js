@@ -16,12 +16,10 @@ async function askText(programs, words, input, program = "m88") {
 const wordsOfRun = ({ ABSENT, SCHEDULE, mxm }) => [ABSENT, SCHEDULE, ...(mxm ? ["mxm"] : [])];
 const scriptOf = (commands) => bytesOf(`${commands.join("\n")}\nsource\n`);
 function joined(...pieces) {
-  const whole = new Uint8Array(pieces.reduce((sum, piece) => sum + piece.length, 0));
-  let at = 0;
-  for (const piece of pieces) {
-    whole.set(piece, at);
-    at += piece.length;
-  }
+  const starts = [0];
+  for (const piece of pieces) starts.push(starts.at(-1) + piece.length);
+  const whole = new Uint8Array(starts.at(-1));
+  pieces.forEach((piece, n) => whole.set(piece, starts[n]));
   return whole;
 }
 

@@ -23,7 +23,9 @@ reverse | turns a text round | all | - |  | 0 | EXAMPLES | ./m88 run 1000 all - 
 two_modes | misaligned addresses, rounded down | 2 | iiiiir | mxm | 0 | EXAMPLES | ./m88 run 100 2 iiiiir mxm < examples/two_modes.s
 two_modules | two modules | none | - |  | 0 | README | ./m88 run 100 none - < examples/two_modules.s
 rom | a ROM | none | - |  | 0 | ROM | ./m88 run 1000 none - < examples/rom.s
-`.trim().split("\n").map((each) => {
-  const [key, title, absent, schedule, mode, events, page, ...rest] = each.split(" | ");
+`.trim().split("\n").map(exampleOf);
+
+function exampleOf(text) {
+  const [key, title, absent, schedule, mode, events, page, ...rest] = text.split(" | ");
   return { key, title, absent, schedule, mode: mode.trim(), events: Number(events), page, command: rest.join(" | ") };
-});
+}

@@ -4,21 +4,24 @@
 const isOfText = (bytes) => !bytes.subarray(0, 4096).some((each) => each < 32 && each !== 9 && each !== 10 && each !== 13);
 const begins = (bytes, ...first) => first.every((each, n) => bytes[n] === each);
 
+const TOLD = {
+  report: "is the report of a run, which needs its source to be drawn", answer: "is the answer of a program that refused its input",
+  session: "is a session of mon, which contrib/pipe.html draws",
+};
 // The kind of a file, and what is said of one that can't be taken.
 function kindOfFile(bytes) {
   if (begins(bytes, 0xFF, 0xFE) || begins(bytes, 0xFE, 0xFF)) return { why: "is in UTF-16. Save it as ASCII or UTF-8" };
   if (begins(bytes, 0xEF, 0xBB, 0xBF)) return { kind: "source", from: 3 };
   if (begins(bytes, 0x7F, 0x45, 0x4C, 0x46)) return { why: "is an ELF file. Records are made of it by `objcopy -O srec`" };
   const kind = isOfText(bytes) ? kindOf(textOf(bytes)) : "binary";
-  if (kind === "report") return { why: "is the report of a run, which needs its source to be drawn" };
-  return kind === "answer" ? { why: "is the answer of a program that refused its input" } : { kind };
+  return kind in TOLD ? { why: TOLD[kind] } : { kind };
 }
 
 const taker = (command) => (bytes, name) => workbench.take({ name, bytes, command });
 const TAKERS = {
-  source: taker(), objects: taker("m88 link"), script: taker("m88 mon"), programs: taker("m88 share"),
+  source: taker(), objects: taker("m88 link"), script: taker("m88 mon"), programs: taker("m88 share"), fault: taker("m88serve"),
   records: (bytes, name) => takeRom(bytes, name, []),
-  binary: askAddress, trace: takeTrace, fault: takeFault, session: takeSession,
+  binary: askAddress, trace: takeTrace,
 };
 
 async function openFile(bytes, name) {
@@ -53,34 +56,11 @@ function askAddress(bytes, name) {
   });
 }
 
-// A trace that is dropped is checked against the source at the left.
+// A trace that is dropped stands behind the source at the left, and is checked against it.
 async function takeTrace(bytes, name) {
-  const source = workbench.sourceGiven, lines = textOf(source).split("\n"), isClosed = lines.at(-1) === "";
-  const input = joined(source, bytesOf(isClosed ? "trace\n" : "\ntrace\n"), bytes);
-  const { status, output, told } = await askText(workbench.long, ["check"], input);
-  const at = Number(/^refused (\d+):1 differs/.exec(output)?.[1] ?? 0) - lines.length - (isClosed ? 0 : 1);
-  if (status === 0) return tell(`${name} is a trace of the source at the left: ${output.trim()}.`);
-  if (!(at > 0)) return tell(`${name}: ${told || output}`, true);
-  const { output: right } = await askText(workbench.long, ["trace", String(Math.max(at, MOST_RETIRED)), "none", "-"], source);
-  const [found, wanted] = [textOf(bytes), right].map((text) => text.split("\n")[at - 1] || "no line");
-  return tell(`${name} differs from line ${at} on. There it has\n${found}\nand the trace of the source has\n${wanted}`, true);
-}
-
-async function takeFault(bytes, name) {
-  const { status, output, told } = await askText(workbench.long, [], bytes, "m88serve");
-  if (status !== 0) return tell(`${name}: ${told || output}`, true);
-  workbench.answer.set(bytesOf(output));
-  chooseRoom("answer");
-  return tell(`${name} is a fault; the answer is what m88serve says of it.`);
-}
-
-// A session that was written elsewhere is drawn as it is; its source isn't known.
-function takeSession(bytes, name) {
-  const run = runOfSession(textOf(bytes));
-  workbench.serial++;
-  showRun(run);
-  chooseRoom("timeline");
-  tell(`${name} is drawn; it is of no source at the left.`);
+  const source = workbench.sourceGiven, end = source.at(-1) === 10 ? "trace\n" : "\ntrace\n";
+  await workbench.take({ name: "check.txt", bytes: joined(source, bytesOf(end), bytes), command: "m88 check" });
+  if (!find("said").classList.contains("wrong")) tell(`${name} is a trace of the source: ${textOf(workbench.answer.bytes)}`);
 }
 
 function beginFiles() {

@@ -1,7 +1,7 @@
 "use strict";
 // The letters of the schedule, set where they happen: at the chosen event. The run is drawn anew, and each change can be undone.
 
-const undone = { before: [] };
+let undone = []; // the schedules before, each with its event
 const LETTERS = { i: "tries to issue the next instruction", r: "lets memory answer the oldest transaction", e: "makes every page absent" };
 
 // The letters up to an event as the run took them, with another one at the event.
@@ -12,7 +12,7 @@ function scheduleWith(k, letter) {
 }
 
 function setSchedule(schedule) {
-  undone.before.push({ schedule: command.words.SCHEDULE, k: shown.k });
+  undone.push({ schedule: command.words.SCHEDULE, k: shown.k });
   document.dispatchEvent(new CustomEvent("schedule", { detail: { schedule, number: shown.k } }));
 }
 
@@ -23,18 +23,18 @@ function setLetter(letter) {
 }
 
 function undoLetter() {
-  const last = undone.before.pop();
+  const last = undone.pop();
   if (last) document.dispatchEvent(new CustomEvent("schedule", { detail: { schedule: last.schedule, number: last.k } }));
 }
 
 function tellLetters() {
-  const c = shown.run?.columns[shown.k], canSet = Boolean(shown.run?.ask);
-  find("letters").hidden = !canSet;
+  const c = shown.run?.columns[shown.k];
+  find("letters").hidden = !shown.run?.ask;
   for (const button of find("letters").querySelectorAll("[data-letter]")) {
     button.setAttribute("aria-pressed", String(c?.letter === button.dataset.letter));
     button.disabled = !c?.letter;
   }
-  find("undo").disabled = undone.before.length === 0;
+  find("undo").disabled = undone.length === 0;
 }
 
 function beginLetters() {

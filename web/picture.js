@@ -5,8 +5,6 @@ const find = (id) => document.getElementById(id);
 // What is shown: a run, the example that it is of, the chosen event with its word, and the wrong way that is compared.
 const shown = { run: null, example: null, k: 0, r: ROW.XIP, isOfRecord: false, way: "oldest", zoom: 1 };
 const ZOOMS = [.35, .5, .7, 1, 1.4, 2];
-const later = window.requestIdleCallback ?? ((work) => setTimeout(() => work({ timeRemaining: () => 8 }), 1));
-const never = window.cancelIdleCallback ?? clearTimeout;
 
 const ROOM = `
   <div class="row screen" id="steps" role="toolbar" aria-label="Events">
@@ -34,23 +32,21 @@ const ROOM = `
   <p id="key"></p>`;
 
 const countParts = () => (shown.run ? Math.ceil(shown.run.columns.length / PART) : 0);
-const FEW_PARTS = 100; // So many are all drawn, for a search in the page; of more those alone that are in view.
+const FEW_PARTS = 30; // So many are all drawn, for a search in the page; of more those alone that are in view.
 const parts = new Map();
-let drawer = 0;
 
 // The picture stands in parts of some columns. Those that come into view are drawn at once.
 function layPicture() {
   const { run, zoom } = shown, high = timelineHeight(run), scrolled = find("picture").scrollLeft;
   parts.clear();
-  never(drawer);
   const width = (run.columns.length * WIDE + NAMES) * zoom;
   find("picture").innerHTML = `<div id="strip" style="width: ${width}px; height: ${high * zoom}px">` +
     `${opened(NAMES, high, ' id="names"', 0, zoom)}<g id="named">${timelineNames(run)}</g></svg><div id="marks"></div></div>`;
   find("picture").scrollLeft = scrolled;
   find("smaller").disabled = zoom === ZOOMS[0];
   find("larger").disabled = zoom === ZOOMS.at(-1);
+  if (countParts() <= FEW_PARTS) drawAll();
   drawSeen();
-  if (countParts() <= FEW_PARTS) drawLater(0);
 }
 
 function drawPart(n) {
@@ -80,14 +76,6 @@ function drawSeen() {
     }
   }
   drawOverview();
-}
-
-// Draws the parts from one on, some at a time, while the browser has nothing else to do.
-function drawLater(n) {
-  drawer = later((time) => {
-    do drawPart(n++); while (n < countParts() && time.timeRemaining() > 2);
-    if (n < countParts()) drawLater(n);
-  }, { timeout: 200 });
 }
 
 // All parts, for print, and for whoever looks at all of them.

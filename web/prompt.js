@@ -3,15 +3,14 @@
 
 const prompt = { breaks: [], said: [], at: 0, programs: null };
 const SHORT_NAMES = {
-  s: "step", b: "back", c: "go", continue: "go", u: "until", d: "delete", f: "fault", t: "trace", r: "regs", x: "mem", p: "pipe", h: "help",
+  s: "step", b: "back", c: "go", continue: "go", u: "until", f: "fault", t: "trace", r: "regs", x: "mem", p: "pipe", h: "help",
 };
 
 const PROMPT_HELP = `step [N]            N events forward (1)
 back [N]            N events back
 go                  to a breakpoint, or to the end of the run
 until PLACE         to the next event after which this instruction is next
-break [PLACE]       sets a breakpoint; alone, lists them
-delete PLACE        takes one away
+break [PLACE]       sets a breakpoint, or takes one away; alone, lists them
 fault               to the next data fault
 trace N             N events forward, with a line for each
 regs, pipe          the registers; the words that a fault would leave now
@@ -19,7 +18,7 @@ mem PLACE [N]       N words of memory (1)
 letters TEXT        another schedule from here on (- for none)
 start               back to the start
 help                this list
-PLACE is a label of the source or hexadecimal digits; LABEL+8 is 8 bytes after it. s, b, c, d, f, t, r, x, p and h are short.`;
+PLACE is a label of the source or hexadecimal digits; LABEL+8 is 8 bytes after it. s, b, c, u, f, t, r, x, p and h are short.`;
 
 function say(text, kind = "") {
   const place = find("answers"), each = document.createElement("div");
@@ -51,10 +50,9 @@ async function carryOut(...commands) {
 }
 
 const stops = (places) => places.map((place) => `break ${place}`);
-const countOf = (word = "1") => word;
 const PROMPTS = {
-  step: async (n) => {
-    await carryOut(`step ${countOf(n)}`);
+  step: async (n = "1") => {
+    await carryOut(`step ${n}`);
     say(find("sentence").textContent, "soft");
   },
   back: (n = "1") => {
@@ -67,23 +65,17 @@ const PROMPTS = {
   until: (place) => carryOut(`break ${placeOf(place)}`, "go"),
   break: async (place) => {
     if (place === undefined) return say(prompt.breaks.join("\n") || "no breakpoint is set");
-    const address = placeOf(place);
-    await sessionOf(prompt.programs, workbench.sourceGiven, command.words, stops([...prompt.breaks, address]));
-    prompt.breaks.push(address);
-    return say(`break ${address}`);
-  },
-  delete: (place) => {
-    const kept = prompt.breaks.filter((each) => each !== placeOf(place)), isThere = kept.length < prompt.breaks.length;
-    prompt.breaks = kept;
-    say(isThere ? "deleted" : "no breakpoint stands there", isThere ? "" : "wrong");
+    const address = placeOf(place), others = prompt.breaks.filter((each) => each !== address), isNew = others.length === prompt.breaks.length;
+    await sessionOf(prompt.programs, workbench.sourceGiven, command.words, stops([...others, address]));
+    prompt.breaks = isNew ? [...others, address] : others;
+    return say(isNew ? `break ${address}` : `no break ${address}`);
   },
   fault: () => {
-    const fault = shown.run.faults.find((each) => each.at > shown.k);
-    if (!fault) return say("no fault comes later");
-    chooseEvent(fault.at);
-    return say(`event ${shown.k}: ${find("sentence").textContent}`);
+    const before = shown.k;
+    goToFault(1);
+    say(before === shown.k ? "no fault comes later" : `event ${shown.k}: ${find("sentence").textContent}`);
   },
-  trace: (n) => carryOut(`trace ${countOf(n)}`),
+  trace: (n = "1") => carryOut(`trace ${n}`),
   regs: () => carryOut("regs"),
   pipe: () => carryOut("pipe"),
   mem: (place, n = "1") => carryOut(`mem ${placeOf(place)} ${n}`),

@@ -7,9 +7,7 @@
 function runOf(columns) {
   const run = { columns, bars: barsOf(columns), faults: [] };
   run.waits = run.bars.filter((bar) => !bar.write && bar.dreg !== 0);
-  columns.forEach((c, k) => {
-    if (c.kind === "fault") run.faults.push(c.fault = faultOf(run, k));
-  });
+  columns.forEach((c, k) => { if (c.kind === "fault") run.faults.push(c.fault = faultOf(run, k)); });
   return run;
 }
 

@@ -5,7 +5,7 @@ const workbench = {
   live: null, long: null, // the workers: of what is drawn while somebody types, and of what is run
   serial: 0, isDrawing: false, number: undefined,
   sourceGiven: new Uint8Array(), // the source in what stands at the left
-  listing: null, answer: null, records: null, listed: null, example: null,
+  listing: null, answer: null, records: null, listed: null,
 };
 const ROOMS = ["timeline", "answer", "listing", "records", "prompt", "exercises"];
 
@@ -25,17 +25,11 @@ function chooseRoom(name) {
   if (name === "prompt") find("typed").focus();
 }
 
-// The source in an input: behind the script of `mon`, before the trace of `check`.
+// The source in an input, and how many lines stand before it: behind the script of `mon`, before the trace of `check`.
+const SOURCES = { SOURCE: /^()([^]*)$/, "SCRIPT-AND-SOURCE": /^((?:.*\n)*?source\r?\n)([^]*)$/, "SOURCE-AND-TRACE": /^()((?:.*\n)*?)trace\r?\n/ };
 function sourceIn(bytes, reads) {
-  if (reads === "SOURCE") return { source: bytes, line: 0 };
-  const text = reads === "SCRIPT-AND-SOURCE" || reads === "SOURCE-AND-TRACE" ? textOf(bytes) : "";
-  if (reads === "SCRIPT-AND-SOURCE") {
-    const found = /^source\r?\n/m.exec(text);
-    const at = found && found.index + found[0].length;
-    return found && { source: bytesOf(text.slice(at)), line: text.slice(0, at).split("\n").length - 1 };
-  }
-  const at = text.search(/^trace\r?$/m);
-  return at < 0 ? null : { source: bytesOf(text.slice(0, at)), line: 0 };
+  const found = SOURCES[reads]?.exec(textOf(bytes));
+  return found ? { source: reads === "SOURCE" ? bytes : bytesOf(found[2]), line: found[1].split("\n").length - 1 } : null;
 }
 
 // Whether what stands at the left is accepted; a refusal is shown at its line, in the program's words.
@@ -102,26 +96,30 @@ function drawRun(form, found, number) {
   const { run, source, line, listing } = found;
   Object.assign(workbench, { sourceGiven: source, listing: { ...readListing(listing), from: line } });
   workbench.listed.set(bytesOf(listing));
-  const { events, records, end } = run.report, put = putOut(run.reportText);
-  const counts = find("hide").checked ? "" : `${many(events, "event")}, ${many(records.size, "data fault")}, ${end}. `;
-  find("note").textContent = `${counts}${put ? `It puts out: ${put.replaceAll("↵\n", "↵")} ` : ""}${run.note}`;
   refuseWord("");
   tell("");
   find("page").classList.remove("stale");
   showRun(run, number);
 }
 
+// What is told of the whole run, while nothing is hidden.
+function tellRun() {
+  if (!shown.run?.report) return;
+  const { report: { events, records, end }, reportText, note } = shown.run, put = putOut(reportText).replaceAll("↵\n", "↵");
+  const counts = `${many(events, "event")}, ${many(records.size, "data fault")}, ${end}. ${put && `It puts out: ${put} `}${note}`;
+  find("note").textContent = find("hide").checked ? "" : counts;
+}
+
 // What the command writes, where it takes no long time.
 async function answerAtOnce(form, input, isOld) {
   const isShort = !form.words.includes("LIMIT") || Number(command.words.LIMIT) <= MOST_RETIRED;
-  if (form.program !== "m88" || !form.reads || input.length > LONG || !isShort) return;
+  if (!form.reads || input.length > LONG || !isShort) return;
   const answer = await workbench.live.answer(form.program, wordsGiven(form), input);
   if (!isOld()) showAnswer(answer, form);
 }
 
 function showAnswer({ status, output, told, time, memory }, form) {
   workbench.answer.set(output);
-  workbench.output = output;
   const put = putOut(textOf(output.subarray(0, 4096)));
   find("put").textContent = put ? `It puts out:\n${put}` : "";
   find("tab-answer").textContent = { run: "Report", exec: "Report", trace: "Trace", mon: "Session" }[form.fixed[0]] ?? form.key;
@@ -153,11 +151,11 @@ async function run() {
 // Takes a source in, with a command and words, and draws it.
 workbench.take = async ({ name, source, bytes, command: key, words, example = null, number }) => {
   clearTimeout(workbench.timer);
-  undone.before = [];
+  undone = [];
   setCommand(key ?? formGiven().key, words);
   const said = bytes ? setBytes(bytes, name) : setText(source);
   clearTimeout(workbench.timer);
-  workbench.example = shown.example = example;
+  shown.example = example;
   find("examples").value = example?.key ?? "";
   await draw(number);
   if (said) tell(said);
@@ -172,7 +170,7 @@ function takeExample(example, number) {
 // Half a second behind the last key.
 function edited({ detail }) {
   clearTimeout(workbench.timer);
-  workbench.example = shown.example = null;
+  shown.example = null;
   find("page").classList.add("stale");
   workbench.timer = setTimeout(() => draw(shown.run ? shown.k : undefined), detail === "command" ? 0 : 500);
 }
@@ -236,12 +234,6 @@ function tellServe() {
   if (fault) find("serve-it").textContent = `What must a handler leave at fault ${fault.number}?`;
 }
 
-function rememberPlace() {
-  const { example } = workbench;
-  if (example && shown.run?.ask) setAddress(placeHash(example, shown.k, shown.way), false);
-  else setAddress("", false);
-}
-
 // ---- Where the page begins, and where an address leads -----------------------------------------------------------------
 
 async function goToPlace() {
@@ -262,7 +254,7 @@ async function goToPlace() {
 async function makeLink() {
   const hash = await packLink({ source: editor.text, command: formGiven().key, words: command.words, event: shown.k });
   if (!editor.isWhole || hash.length > LINK_MOST) return tell("What stands at the left is too long for a link; a file is better.", true);
-  workbench.example = null;
+  shown.example = null;
   setAddress(hash, true);
   await navigator.clipboard?.writeText(location.href).catch(() => {});
   return tell("The address of this page now holds the source, the words and the event; the browser may have copied it.");
@@ -309,16 +301,17 @@ function beginButtons() {
 function listen() {
   document.addEventListener("edited", edited);
   document.addEventListener("schedule", ({ detail: { schedule, number } }) => {
-    setWords({ SCHEDULE: schedule });
-    workbench.example = shown.example = null;
+    setCommand(find("command").value, { SCHEDULE: schedule });
+    shown.example = null;
     clearTimeout(workbench.timer);
     draw(number);
   });
   let ahead;
   document.addEventListener("chosen", () => {
     markPlaces();
+    tellRun();
     tellServe();
-    rememberPlace();
+    setAddress(shown.example ? placeHash(shown.example, shown.k, shown.way) : "", false);
     clearTimeout(ahead);
     ahead = setTimeout(tellMemory, 30);
   });

@@ -72,9 +72,7 @@ function finish(bars, order) {
     if (bars[n].write) places.forEach((place) => memory.set(place, n));
     else seen[n] = places.map((place) => memory.get(place) ?? -1);
   }
-  bars.forEach((bar, n) => {
-    if (bar.write) seen[n] = placesOf(bar).map((place) => memory.get(place));
-  });
+  bars.forEach((bar, n) => { if (bar.write) seen[n] = placesOf(bar).map((place) => memory.get(place)); });
   return seen;
 }
 
