@@ -48,9 +48,9 @@ function showRefusal({ status, output, told }, from = 0) {
 
 // What is asked while somebody types: `build` of a source, else the command itself, which retires nothing.
 async function isRefused(form, input) {
-  if (form.reads === "" || form.program !== "m88") return false;
+  if (form.reads === "") return false;
   const isSource = form.reads === "SOURCE", words = isSource ? ["build"] : wordsGiven(form, { ...command.words, LIMIT: "0" });
-  const answer = await askText(workbench.live, words, input);
+  const answer = await askText(workbench.live, words, input, isSource ? "m88" : form.program);
   if (isSource) workbench.records.set(bytesOf(answer.status === 0 ? answer.output : ""));
   return answer.status === 1 ? refuseWord(answer.told) : showRefusal(answer);
 }
