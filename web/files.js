@@ -1,5 +1,5 @@
 "use strict";
-// What is opened or dropped: by its first bytes a source, records, a binary, a trace, a fault, a session, or something to be told.
+// What is opened or dropped: by its first bytes a source, records, a binary, a trace, a fault, or something to be told.
 
 const isOfText = (bytes) => !bytes.subarray(0, 4096).some((each) => each < 32 && each !== 9 && each !== 10 && each !== 13);
 const begins = (bytes, ...first) => first.every((each, n) => bytes[n] === each);

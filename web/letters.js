@@ -43,7 +43,7 @@ function beginLetters() {
     '<button type="button" id="undo" title="the letters before (Ctrl+Z in the picture)">Undo</button>';
   find("letters").addEventListener("click", ({ target }) => { if (target.dataset.letter) setLetter(target.dataset.letter); });
   find("undo").addEventListener("click", undoLetter);
-  for (const letter of Object.keys(LETTERS)) KEYS[letter] = () => setLetter(letter);
+  for (const letter of Object.keys(LETTERS)) KEYS[letter] = () => { if (!find("room-timeline").hidden) setLetter(letter); };
   document.addEventListener("keydown", (event) => {
     if ((event.ctrlKey || event.metaKey) && event.key === "z" && !isTaken(event)) undoLetter();
   });
