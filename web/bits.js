@@ -19,10 +19,7 @@ function remembered(answer) {
   };
 }
 
-function pointer(word) {
-  const n = value(word);
-  return { address: hex(n - (n % 4)), v: bit(n, 1), e: bit(n, 0) };
-}
+const pointer = (word) => ({ address: hex(value(word) & ~3), v: bit(value(word), 1), e: bit(value(word), 0) });
 
 const fieldsOf = remembered((dmt) => {
   const n = value(dmt);
@@ -56,10 +53,8 @@ function told(a) {
   return toldOfBar(a) + (marks.length ? ` (${marks.join(", ")})` : "");
 }
 
-function toldOfBar(a) {
-  const span = spanOf(a.en);
-  return a.write ? `store${span} ${datumOf(a)} to ${addressOf(a)}` : `load${span} r${a.dreg} from ${addressOf(a)}`;
-}
+const toldOfBar = (a) => (a.write ? `store${spanOf(a.en)} ${datumOf(a)} to ${addressOf(a)}`
+  : `load${spanOf(a.en)} r${a.dreg} from ${addressOf(a)}`);
 
 // The same inside a sentence.
 function spoken(a) {

@@ -60,10 +60,7 @@ function formOfShell(text) {
   return { command: form.key, words };
 }
 
-function layWords() {
-  find("fields").innerHTML = formGiven().words.map(fieldOf).join("");
-  find("command").title = PURPOSES[formGiven().key] ?? "";
-}
+const layWords = () => { find("fields").innerHTML = formGiven().words.map(fieldOf).join(""); };
 
 // A command and words that come from elsewhere: an example, a link, a letter that is set.
 function setCommand(key, words = {}) {

@@ -70,8 +70,7 @@ function tellRegisters() {
     return `<span class="${name}"${note}><b>r${r}</b>${word === WAITS ? "waits" : word}</span>`;
   };
   const carry = `carry ${c.carry}${before?.carry && before.carry !== c.carry ? ", changed" : ""}`;
-  const note = c.registers.some(isChanged) ? "what changed is marked" : "no register changed";
-  const all = c.registers.map(one).join("");
+  const note = c.registers.some(isChanged) ? "what changed is marked" : "no register changed", all = c.registers.map(one).join("");
   find("registers").innerHTML = `${title}<div class="mono">${all}</div><p class="soft">${carry}; ${note}</p>`;
 }
 

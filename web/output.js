@@ -50,9 +50,8 @@ class Pages {
 
 // The bytes that a program put out, as a report has them, in letters.
 function putOut(report) {
-  const digits = /^out ([0-9A-F]+)$/m.exec(report)?.[1];
-  if (!digits) return "";
-  return digits.match(/../g).map(value).map((n) => (n > 31 && n < 127 ? String.fromCharCode(n) : n === 10 ? "↵\n" : "·")).join("");
+  const bytes = /^out ([0-9A-F]+)$/m.exec(report)?.[1].match(/../g).map(value) ?? [];
+  return bytes.map((n) => (n > 31 && n < 127 ? String.fromCharCode(n) : n === 10 ? "↵\n" : "·")).join("");
 }
 
 // The labels and rows of a listing: the line of the source that each address belongs to, the line of the listing, and the names.

@@ -10,8 +10,7 @@ const workbench = {
 const ROOMS = ["timeline", "answer", "listing", "records", "prompt", "exercises"];
 
 function tell(text, isWrong = false) {
-  find("said").textContent = text;
-  find("said").classList.toggle("wrong", isWrong);
+  Object.assign(find("said"), { textContent: text, className: isWrong ? "wrong" : "" });
 }
 
 function chooseRoom(name) {

@@ -77,10 +77,7 @@ function finish(bars, order) {
 }
 
 // The byte that a store puts at an address.
-function byteOf(bar, place) {
-  const k = placesOf(bar).indexOf(place);
-  return datumOf(bar).slice(2 * k, 2 * k + 2);
-}
+const byteOf = (bar, place) => datumOf(bar).match(/../g)[placesOf(bar).indexOf(place)];
 
 // What the bytes of a transaction hold, where stores of the record put them there.
 function heldBy(bars, n, sources) {
