@@ -82,7 +82,7 @@ function faultInQuestion() {
 
 function tellWrong() {
   const fault = faultInQuestion(), place = find("wrong");
-  place.hidden = !fault || !fault.record || fault.bars.length === 0;
+  place.hidden = find("to-wrong").hidden = !fault || !fault.record || fault.bars.length === 0;
   if (place.hidden) return;
   const { lines, verdict } = WAYS[shown.way].judge(shown.run, fault);
   place.querySelector("h2").textContent = `A wrong monitor at fault ${fault.number}, event ${shown.run.columns[fault.at].number}`;
@@ -173,6 +173,7 @@ function beginEvents(say) {
   find("forth").addEventListener("click", () => choose(shown.k + 1));
   find("before").addEventListener("click", () => goToFault(-1));
   find("next").addEventListener("click", () => goToFault(1));
+  find("to-wrong").addEventListener("click", () => find("wrong").scrollIntoView());
   find("hide").addEventListener("change", () => {
     if (!shown.run) return;
     choose(shown.k);

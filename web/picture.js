@@ -15,6 +15,7 @@ const ROOM = `
     <button id="next" type="button" title="the next fault (n)" aria-keyshortcuts="n">fault &#8594;</button>
     <span id="letters" class="pair" role="group" aria-label="The letter of this event" hidden></span>
     <label title="so that a class may guess"><input id="hide" type="checkbox"> hide what comes later</label>
+    <button id="to-wrong" type="button">Wrong monitors &#8595;</button>
   </div>
   <p id="sentence" role="status" aria-live="polite"></p>
   <canvas id="overview" role="img" aria-label="The whole run: its faults, its bars, and what is in view"></canvas>

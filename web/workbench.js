@@ -104,8 +104,9 @@ function drawRun(form, found, number) {
 // What is told of the whole run, while nothing is hidden.
 function tellRun() {
   if (!shown.run?.report) return;
-  const { report: { events, records, end }, reportText, note } = shown.run, put = putOut(reportText).replaceAll("↵\n", "↵");
-  const counts = `${many(events, "event")}, ${many(records.size, "data fault")}, ${end}. ${put && `It puts out: ${put} `}${note}`;
+  const { report: { events, records, end }, reportText, note } = shown.run, put = putOut(reportText).replaceAll("↵\n", "↵").slice(0, 100);
+  const [first] = records.keys(), faults = many(records.size, "data fault") + (first ? `, ${records.size > 1 ? "the first " : ""}at event ${first}` : "");
+  const counts = `${many(events, "event")}; ${faults}; ${end}. ${put && `It puts out: ${put} `}${note}`;
   find("note").textContent = find("hide").checked ? "" : counts;
 }
 
@@ -170,6 +171,7 @@ function takeExample(example, number) {
 function edited({ detail }) {
   clearTimeout(workbench.timer);
   shown.example = null;
+  if (!detail) find("examples").value = "";
   find("page").classList.add("stale");
   workbench.timer = setTimeout(() => draw(shown.run ? shown.k : undefined), detail === "command" ? 0 : 500);
 }
