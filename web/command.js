@@ -43,7 +43,6 @@ const PURPOSES = {
 const formGiven = () => command.forms.find(({ key }) => key === find("command").value) ?? command.forms[0];
 const wordsGiven = (form = formGiven(), words = command.words) =>
   [...form.fixed, ...form.words.flatMap((name) => (words[name] ?? "").split(/\s+/).filter((word) => word !== ""))];
-const readsSource = () => formGiven().reads === "SOURCE";
 const helpOf = (name) => [SHORT_HELPS[name], command.helps.get(name)].filter(Boolean).join("\n");
 
 function fieldOf(name) {

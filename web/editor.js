@@ -11,7 +11,6 @@ const editor = {
   lines: 1,
   get field() { return find("source"); },
   get text() { return this.field.value; },
-  get isWhole() { return !this.field.readOnly; },
   // The input: the bytes of the file that was opened, while its text stands there as it was laid. A field has LF for each CR LF,
   // and no place for bytes that are no text.
   get bytes() { return this.file?.text === this.field.value ? this.file.bytes : bytesOf(this.field.value); },

@@ -59,7 +59,7 @@ function tellWord() {
 function tellRegisters() {
   const { run, k } = shown, c = run.columns[k], before = run.columns[k - 1], title = `<h2>Registers ${whenOf(c)}</h2>`;
   if (!c.registers) {
-    const note = run.ask ? "" : "This text shows none: <code>contrib/session</code> and the command <code>regs</code> do.";
+    const note = run.words ? "" : "This text shows none: <code>contrib/session</code> and the command <code>regs</code> do.";
     find("registers").innerHTML = `${title}<p class="soft">${note}</p>`;
     return;
   }

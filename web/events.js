@@ -87,7 +87,8 @@ async function askRun(programs, source, words) {
   if (run.status !== 0) throw Object.assign(new Error(run.told), run);
   const report = readReport(run.output), count = Math.min(report.events, MOST_DRAWN);
   const drawn = await (words.mxm ? askSlowly(programs, source, words, count) : askAtOnce(programs, source, words, limit, report));
-  return Object.assign(drawn, { report, reportText: run.output, note: noteOf(drawn, report, limit, Number(words.LIMIT)) });
+  const note = noteOf(drawn, report, limit, Number(words.LIMIT));
+  return Object.assign(drawn, { source, words, report, reportText: run.output, note });
 }
 
 function noteOf({ columns }, report, limit, wanted) {
@@ -109,8 +110,10 @@ async function askAtOnce(programs, source, words, limit, report) {
   run.ask = (first, last) => {
     const chunks = [];
     for (let chunk = Math.floor(first / CHUNK); chunk * CHUNK < last; chunk++) {
-      if (!known.has(chunk)) known.set(chunk, askStates(programs, source, words, run.columns, chunk * CHUNK));
-      chunks.push(known.get(chunk));
+      const asked = known.get(chunk) ?? askStates(programs, source, words, run.columns, chunk * CHUNK);
+      known.set(chunk, asked);
+      asked.catch(() => known.delete(chunk));
+      chunks.push(asked);
     }
     return Promise.all(chunks);
   };
@@ -147,7 +150,7 @@ function touchedWords(run, k, most) {
 }
 
 // The values of words before and after an event: [address, before, after] of each.
-async function askMemory(programs, source, words, k, addresses) {
+async function askMemory(programs, { source, words }, k, addresses) {
   const mem = addresses.map((address) => `mem ${address} 1`), steps = k > 1 ? [`step ${k - 1}`] : [];
   const text = await sessionOf(programs, source, words, [...steps, ...mem, ...(k > 0 ? ["step 1", ...mem] : [])]);
   const values = text.split("\n").filter((each) => each.startsWith("mem ")).map((each) => each.split(" ")[2]);

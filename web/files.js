@@ -38,7 +38,7 @@ async function openFile(bytes, name) {
 async function takeRom(bytes, name, words) {
   const { status, output, told } = await askText(workbench.long, words, bytes, "m88source");
   if (status !== 0) return tell(`${name}: ${told || output}`, true);
-  await workbench.take({ name, source: output, command: readsSource() ? undefined : "m88 run" });
+  await workbench.take({ name, source: output, command: formGiven().reads === "SOURCE" ? undefined : "m88 run" });
   return tell(`${name} is shown as m88source writes it; Records has what it builds.`);
 }
 
@@ -58,7 +58,7 @@ function askAddress(bytes, name) {
 
 // A trace that is dropped stands behind the source at the left, and is checked against it.
 async function takeTrace(bytes, name) {
-  const source = workbench.sourceGiven, end = source.at(-1) === 10 ? "trace\n" : "\ntrace\n";
+  const { source } = shown.run ?? { source: editor.bytes }, end = source.at(-1) === 10 ? "trace\n" : "\ntrace\n";
   await workbench.take({ name: "check.txt", bytes: joined(source, bytesOf(end), bytes), command: "m88 check" });
   if (!find("said").classList.contains("wrong")) tell(`${name} is a trace of the source: ${textOf(workbench.answer.bytes)}`);
 }

@@ -18,7 +18,7 @@ function setSchedule(schedule) {
 
 function setLetter(letter) {
   const c = shown.run?.columns[shown.k];
-  if (!shown.run?.ask || !c?.letter || c.letter === letter || !formGiven().words.includes("SCHEDULE")) return;
+  if (!shown.run?.words || !c?.letter || c.letter === letter || !formGiven().words.includes("SCHEDULE")) return;
   setSchedule(scheduleWith(shown.k, letter));
 }
 
@@ -29,7 +29,7 @@ function undoLetter() {
 
 function tellLetters() {
   const c = shown.run?.columns[shown.k];
-  find("letters").hidden = !shown.run?.ask;
+  find("letters").hidden = !shown.run?.words;
   for (const button of find("letters").querySelectorAll("[data-letter]")) {
     button.setAttribute("aria-pressed", String(c?.letter === button.dataset.letter));
     button.disabled = !c?.letter;

@@ -38,7 +38,7 @@ function placeOf(word = "") {
 // Carries commands of `mon` out at the chosen event. What they write is told, and the event that they lead to is chosen.
 async function carryOut(...commands) {
   const { run } = shown, steps = shown.k > 0 ? [`step ${shown.k}`] : [];
-  const text = await sessionOf(prompt.programs, workbench.sourceGiven, command.words, [...steps, ...commands]);
+  const text = await sessionOf(prompt.programs, run.source, run.words, [...steps, ...commands]);
   const lines = text.trimEnd().split("\n").slice(steps.length).filter((each) => !each.startsWith("break "));
   const last = lines.filter((each) => /^(events )?\d+ /.test(each)).at(-1), number = last && Number(/\d+/.exec(last)[0]);
   say(lines.join("\n") || "The run is over.");
@@ -66,7 +66,7 @@ const PROMPTS = {
   break: async (place) => {
     if (place === undefined) return say(prompt.breaks.join("\n") || "no breakpoint is set");
     const address = placeOf(place), others = prompt.breaks.filter((each) => each !== address), isNew = others.length === prompt.breaks.length;
-    await sessionOf(prompt.programs, workbench.sourceGiven, command.words, stops([...others, address]));
+    await sessionOf(prompt.programs, shown.run.source, shown.run.words, stops([...others, address]));
     prompt.breaks = isNew ? [...others, address] : others;
     return say(isNew ? `break ${address}` : `no break ${address}`);
   },
@@ -92,7 +92,7 @@ async function typed(text) {
   const [name, ...operands] = text.trim().split(/\s+/), known = PROMPTS[name] ? name : SHORT_NAMES[name];
   say(`${shown.k}> ${text}`, "typed");
   if (!known) return say(`'${name}' is no command; help lists them`, "wrong");
-  if (known !== "help" && !shown.run?.ask) return say("there is no run: a source that is accepted is wanted at the left", "wrong");
+  if (known !== "help" && !shown.run?.words) return say("there is no run: a source that is accepted is wanted at the left", "wrong");
   try {
     await PROMPTS[known](...operands);
   } catch (error) {
@@ -102,7 +102,7 @@ async function typed(text) {
 }
 
 const tellPlace = () => {
-  const next = shown.run?.ask ? addressAt(shown.run.columns, Math.min(shown.k + 1, shown.run.columns.length - 1)) : "";
+  const next = shown.run?.words ? addressAt(shown.run.columns, Math.min(shown.k + 1, shown.run.columns.length - 1)) : "";
   find("place").textContent = `${shown.k} ${next}>`;
 };
 

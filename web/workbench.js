@@ -3,9 +3,7 @@
 
 const workbench = {
   live: null, long: null, // the workers: of what is drawn while somebody types, and of what is run
-  serial: 0, isDrawing: false, number: undefined,
-  sourceGiven: new Uint8Array(), // the source in what stands at the left
-  listing: null, answer: null, records: null, listed: null,
+  serial: 0, isDrawing: false, listing: null, answer: null, records: null, listed: null,
 };
 const ROOMS = ["timeline", "answer", "listing", "records", "prompt", "exercises"];
 
@@ -25,7 +23,9 @@ function chooseRoom(name) {
 }
 
 // The source in an input, and how many lines stand before it: behind the script of `mon`, before the trace of `check`.
-const SOURCES = { SOURCE: /^()([^]*)$/, "SCRIPT-AND-SOURCE": /^((?:.*\n)*?source\r?\n)([^]*)$/, "SOURCE-AND-TRACE": /^()((?:.*\n)*?)trace\r?\n/ };
+const SOURCES = {
+  SOURCE: /^()([^]*)$/, "SCRIPT-AND-SOURCE": /^((?:[^\n]*\n)*?source\r?\n)([^]*)$/, "SOURCE-AND-TRACE": /^()((?:[^\n]*\n)*?)trace\r?\n/,
+};
 function sourceIn(bytes, reads) {
   const found = SOURCES[reads]?.exec(textOf(bytes));
   return found ? { source: reads === "SOURCE" ? bytes : bytesOf(found[2]), line: found[1].split("\n").length - 1 } : null;
@@ -87,17 +87,17 @@ async function askDrawn(form, input) {
 }
 
 function drawRun(form, found, number) {
+  refuseWord("");
+  tell("");
+  find("page").classList.remove("stale");
   if (!found) {
     showRun(null);
     find("note").textContent = editor.bytes.length > LONG ? "It is too long to be drawn; Run runs it." : `${form.key} has no timeline.`;
     return;
   }
-  const { run, source, line, listing } = found;
-  Object.assign(workbench, { sourceGiven: source, listing: { ...readListing(listing), from: line } });
+  const { run, line, listing } = found;
+  workbench.listing = { ...readListing(listing), from: line };
   workbench.listed.set(bytesOf(listing));
-  refuseWord("");
-  tell("");
-  find("page").classList.remove("stale");
   showRun(run, number);
 }
 
@@ -171,6 +171,7 @@ function takeExample(example, number) {
 function edited({ detail }) {
   clearTimeout(workbench.timer);
   shown.example = null;
+  setAddress("", false);
   if (!detail) find("examples").value = "";
   find("page").classList.add("stale");
   workbench.timer = setTimeout(() => draw(shown.run ? shown.k : undefined), detail === "command" ? 0 : 500);
@@ -186,7 +187,7 @@ function instructionOf(run, k) {
 }
 
 function markPlaces() {
-  const { run, k } = shown, rows = workbench.listing?.rows, isOwn = run?.ask && rows;
+  const { run, k } = shown, rows = workbench.listing?.rows, isOwn = run?.words && rows;
   const row = (address) => (isOwn && address ? rows.get(address) : undefined);
   const isLast = run && k + 1 === run.columns.length, here = row(isOwn && instructionOf(run, k));
   const next = row(isOwn && !isLast && addressAt(run.columns, k + 1));
@@ -199,13 +200,13 @@ function markPlaces() {
 
 // The words of memory that the run touches, with their values around the event.
 async function tellMemory() {
-  const { run, k } = shown, place = find("memory"), addresses = run?.ask ? touchedWords(run, k, 28) : [];
+  const { run, k } = shown, place = find("memory"), addresses = run?.words ? touchedWords(run, k, 28) : [];
   if (!addresses.length) {
     place.innerHTML = "";
     return;
   }
   const touched = new Set([...run.columns[k].ended].map(({ dma }) => dma));
-  const values = await askMemory(workbench.live, workbench.sourceGiven, command.words, k, addresses).catch(() => null);
+  const values = await askMemory(workbench.live, run, k, addresses).catch(() => null);
   if (!values || shown.run !== run || shown.k !== k) return;
   place.innerHTML = `<h2>Memory ${whenOf(run.columns[k])}</h2><div class="mono">${values.map(([address, before, now]) => {
     const name = workbench.listing?.names.get(address), kind = before !== now ? "changed" : touched.has(address) ? "touched" : "";
@@ -218,7 +219,7 @@ async function serveFault() {
   const { run } = shown, fault = faultInQuestion(), { epsr, sxip, snip, sfip, ssbr, triples } = fault.record;
   const addresses = [...new Set(fault.bars.map(({ dma }) => dma))], mem = addresses.map((address) => `mem ${address} 1`);
   const steps = fault.at > 1 ? [`step ${fault.at - 1}`] : [];
-  const memory = await sessionOf(workbench.live, workbench.sourceGiven, command.words, [...steps, ...mem]);
+  const memory = await sessionOf(workbench.live, run.source, run.words, [...steps, ...mem]);
   const input = [`epsr ${epsr} sxip ${sxip} snip ${snip} sfip ${sfip} ssbr ${ssbr}`,
     ...triples.map(({ dmt, dmd, dma }, n) => `t${n} ${dmt} ${dmd} ${dma}`), ...memory.split("\n").filter((each) => each.startsWith("mem ")),
     ""].join("\n");
@@ -229,7 +230,7 @@ async function serveFault() {
 }
 
 function tellServe() {
-  const fault = shown.run?.ask && PROGRAMS.includes("m88serve") ? faultInQuestion() : null;
+  const fault = shown.run?.words && PROGRAMS.includes("m88serve") ? faultInQuestion() : null;
   find("serve").hidden = !fault?.record;
   find("served").hidden = true;
   if (fault) find("serve-it").textContent = `What must a handler leave at fault ${fault.number}?`;
@@ -239,22 +240,19 @@ function tellServe() {
 
 async function goToPlace() {
   const { hash } = location, held = await unpackLink(hash);
-  if (held) {
-    await workbench.take({ name: "the link", source: held.source, command: held.command, words: held.words, number: held.event });
-    return;
-  }
+  if (held) return workbench.take({ ...held, number: held.event });
   const { key, event, way } = placeIn(hash), example = RUNS.find((each) => each.key === key);
   shown.way = way;
   await takeExample(example ?? RUNS[0], event);
-  if (!hash) tell("Try this: choose the letter i for event 8. Memory answers later then, and the fault comes later.");
-  if (hash.startsWith("#v1.")) tell("This link is cut or damaged, so late_fault stands here in its place.", true);
-  else if (key && !example) tell(`No example is named ${key}, so late_fault stands here in its place.`, true);
-  else if (event !== undefined && shown.k !== event) tell(`This run has no event ${event}.`, true);
+  if (!hash) return tell("Try this: choose the letter i for event 8. Memory answers later then, and the fault comes later.");
+  if (hash.startsWith("#v1.")) return tell("This link is cut or damaged, so late_fault stands here in its place.", true);
+  if (!example) return tell(`No example is named ${key}, so late_fault stands here in its place.`, true);
+  return event === undefined || shown.k === event || tell(`This run has no event ${event}.`, true);
 }
 
 async function makeLink() {
   const hash = await packLink({ source: editor.text, command: formGiven().key, words: command.words, event: shown.k });
-  if (!editor.isWhole || hash.length > LINK_MOST) return tell("What stands at the left is too long for a link; a file is better.", true);
+  if (editor.field.readOnly || hash.length > LINK_MOST) return tell("What stands at the left is too long for a link; a file is better.", true);
   shown.example = null;
   setAddress(hash, true);
   await navigator.clipboard?.writeText(location.href).catch(() => {});
@@ -304,6 +302,7 @@ function listen() {
   document.addEventListener("schedule", ({ detail: { schedule, number } }) => {
     setCommand(find("command").value, { SCHEDULE: schedule });
     shown.example = null;
+    setAddress("", false);
     clearTimeout(workbench.timer);
     draw(number);
   });
@@ -312,7 +311,7 @@ function listen() {
     markPlaces();
     tellRun();
     tellServe();
-    setAddress(shown.example ? placeHash(shown.example, shown.k, shown.way) : "", false);
+    if (shown.example) setAddress(placeHash(shown.example, shown.k, shown.way), false);
     clearTimeout(ahead);
     ahead = setTimeout(tellMemory, 30);
   });
@@ -343,6 +342,5 @@ async function begin() {
   await goToPlace();
   document.body.dataset.ready = "1";
   await beginOthers();
-  return undefined;
 }
 begin().catch((error) => tell(`Nothing can be run: ${error.message}`, true));
