@@ -32,15 +32,16 @@ function sourceIn(bytes, reads) {
 }
 
 // Whether what stands at the left is accepted; a refusal is shown at its line, in the program's words.
-function showRefusal({ status, output, told }, from = 0) {
+function showRefusal({ status, output, told }) {
   const [, line, column, reason] = /^refused (\d+):(\d+) (.*)/.exec(output) ?? [];
   if (status === 0) {
     setMarks("refused", []);
     return false;
   }
   if (line) {
-    markRefusal(Number(line) + from, Number(column), reason);
-    tell(`Line ${Number(line) + from}, column ${column}: ${reason}`, true);
+    markRefusal(Number(line), Number(column), reason);
+    const more = told.split("\n").filter((each) => /^m88\w*( \w+)?: (?!refused)/.test(each));
+    tell([`Line ${line}, column ${column}: ${reason}`, ...more].join("\n"), true);
   } else tell(told.trim() || `Status ${status}`, true);
   return true;
 }
@@ -126,7 +127,7 @@ function showAnswer({ status, output, told, time, memory }, form) {
   const took = `${time.toFixed(1)} ms, ${(memory / 1048576).toFixed(1)} MiB`;
   find("status").textContent = `${[form.program, ...wordsGiven(form)].join(" ")}: status ${status}, ${many(output.length, "byte")}, ${took}`;
   if (status === 1) refuseWord(textOf(told));
-  find("answer-told").textContent = status === 0 ? "" : textOf(told).trim();
+  find("answer-told").textContent = textOf(told).trim();
 }
 
 // The command, as it stands. It can be cancelled.
