@@ -27,8 +27,9 @@ impl Unnamed {
             seen: [None; MOST],
             taken: [None; MOST],
         };
-        for (at, line) in (0..MOST).zip(service.split(|byte| *byte == b'\n')) {
-            let Some((word, is_stored)) = access_in(line) else {
+        let mut lines = service.split(|byte| *byte == b'\n');
+        for at in 0..MOST {
+            let Some((word, is_stored)) = lines.next().and_then(|line| access_in(line)) else {
                 break;
             };
             if !is_stored && !words.seen.contains(&Some(word)) && !is_named(input, word) {
