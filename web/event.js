@@ -187,6 +187,23 @@ function beginEvents(say) {
   });
 }
 
+// The address is changed; a new place is one that Back leads from. A frame may have no address.
+function setAddress(hash, isNew) {
+  try {
+    if (location.hash === hash) return;
+    history[isNew ? "pushState" : "replaceState"](null, "", hash || location.pathname);
+  } catch { /* nothing is remembered there */ }
+}
+
+// The address of an example: its name, the event, and a wrong way that isn't the first.
+const placeHash = ({ key }, event, way) => `#${[key, event, ...(way === "oldest" ? [] : [way])].join(",")}`;
+
+// The place that an address names: `key,event,way`.
+function placeIn(hash) {
+  const [key, event, way] = decodeURIComponent(hash.replace(/^#/, "")).split(",");
+  return { key, event: event === undefined ? undefined : Number(event), way: way in WAYS ? way : "oldest" };
+}
+
 // Takes a run in, and chooses its first fault, or an event by its number.
 function showRun(run, number) {
   shown.run = run;

@@ -1,24 +1,7 @@
 "use strict";
-// A place that can be given to somebody: an example with its event and a wrong way, or a source with its words and event, packed.
+// A link that can be given to somebody: a source with its command, words and event, packed.
 
 const LINK_MOST = 8000;
-
-// The address is changed; a new place is one that Back leads from. A frame may have no address.
-function setAddress(hash, isNew) {
-  try {
-    if (location.hash === hash) return;
-    history[isNew ? "pushState" : "replaceState"](null, "", hash || location.pathname);
-  } catch { /* nothing is remembered there */ }
-}
-
-// The address of an example: its name, the event, and a wrong way that isn't the first.
-const placeHash = ({ key }, event, way) => `#${[key, event, ...(way === "oldest" ? [] : [way])].join(",")}`;
-
-// The place that an address names: `key,event,way`.
-function placeIn(hash) {
-  const [key, event, way] = decodeURIComponent(hash.replace(/^#/, "")).split(",");
-  return { key, event: event === undefined ? undefined : Number(event), way: way in WAYS ? way : "oldest" };
-}
 
 async function through(bytes, stream) {
   return new Uint8Array(await new Response(new Blob([bytes]).stream().pipeThrough(stream)).arrayBuffer());
