@@ -77,13 +77,13 @@ all_code image entries seeds w new seeds_are sound all slots more a = (
         ]
 
 -- where no entry was noted
-pub no_entry : (t : ℕ) (Has Named Target Other : Type 0) → Has ↔ (Named × Other) → Named ↔ Target
-    → Has ↔ (Other × (Target ⊎ Contains [] t))
-no_entry t Has Named Target Other is named = (
+pub no_entry : (t : ℕ) (Has Named Target Code Other : Type 0) → Has ↔ (Named × Other) → Named ↔ Target
+    → Has ↔ (Other × (Target ⊎ (Contains [] t × Code)))
+no_entry t Has Named Target Code Other is named = (
   λ has. let p = is.0 has in (p.1, inl (named.0 p.0)),
   λ p. elim p.1 [
     | inl branch_target ↦ is.1 (named.1 branch_target, p.0)
-    | inr none ↦ absurd (let low = none.1 in omega (arith, low))
+    | inr none ↦ absurd (let low = none.0.1 in omega (arith, low))
   ],
 )
 
@@ -92,33 +92,36 @@ with_target Has Named Target Other is named =
     (λ has. let p = is.0 has in (named.0 p.0, p.1), λ p. is.1 (named.1 p.0, p.1))
 
 -- one entry more
-pub entry_more : (entries : List ℕ) (index t : ℕ) (Had Has Target Other : Type 0) → index < length entries
-    → Had ↔ (Other × (Target ⊎ Contains (map word_address (take index entries)) t))
-    → Has ↔ (Had ⊎ ((t ≡ word_address (get_or entries index 0)) × Other))
-    → Has ↔ (Other × (Target ⊎ Contains (map word_address (take (index + 1) entries)) t))
-entry_more entries index t Had Has Target Other low before last =
+pub entry_more : (entries : List ℕ) (index t : ℕ) (Had Has Target Found Code Other : Type 0) → index < length entries
+    → Found ↔ Code → (Code → Other)
+    → Had ↔ (Other × (Target ⊎ (Contains (map word_address (take index entries)) t × Code)))
+    → Has ↔ (Had ⊎ ((t ≡ word_address (get_or entries index 0)) × Found))
+    → Has ↔ (Other × (Target ⊎ (Contains (map word_address (take (index + 1) entries)) t × Code)))
+entry_more entries index t Had Has Target Found Code Other low coded some before last =
     let xs : List ℕ = map word_address (take index entries) in
     let y : ℕ = word_address (get_or entries index 0) in
     let e : xs ++ y ∷ [] ≡ map word_address (take (index + 1) entries) =
     sym (ap (map word_address) (take_more entries index 0 low)
     ∙ map-append word_address (take index entries) (get_or entries index 0 ∷ [])) in
-    subst (λ (ys : List ℕ). Has ↔ (Other × (Target ⊎ Contains ys t))) e (
+    subst (λ (ys : List ℕ). Has ↔ (Other × (Target ⊎ (Contains ys t × Code)))) e (
       λ has. elim (last.0 has) [
         | inl had ↦
             let p = before.0 had in (
               p.0,
               elim p.1 [
                 | inl branch_target ↦ inl branch_target
-                | inr old ↦ inr (Contains-append_left xs (y ∷ []) t old)
+                | inr old ↦ inr (Contains-append_left xs (y ∷ []) t old.0, old.1)
               ],
             )
-        | inr new ↦ (new.1, inr (subst (λ (b : ℕ). Contains (xs ++ y ∷ []) b) (sym new.0) (Contains-push xs y)))
+        | inr new ↦
+            let code : Code = coded.0 new.1 in
+            (some code, inr (subst (λ (b : ℕ). Contains (xs ++ y ∷ []) b) (sym new.0) (Contains-push xs y), code))
       ],
       λ p. elim p.1 [
         | inl branch_target ↦ last.1 (inl (before.1 (p.0, inl branch_target)))
-        | inr member ↦ elim (Contains-push_cases xs y t member) [
-          | inl old ↦ last.1 (inl (before.1 (p.0, inr old)))
-          | inr same ↦ last.1 (inr (sym same, p.0))
+        | inr member ↦ elim (Contains-push_cases xs y t member.0) [
+          | inl old ↦ last.1 (inl (before.1 (p.0, inr (old, member.1))))
+          | inr same ↦ last.1 (inr (sym same, coded.1 member.1))
         ]
       ],
     )

@@ -78,17 +78,9 @@ target_low image entries t (from, is, (i, stands, e)) =
     let g = w.1 in
     omega (arith, f, g)
 
-entry_whole : (xs : List ℕ) (a : ℕ) → Contains (map word_address xs) a → a % 4 ≡ 0
-entry_whole xs a (k, low, is) = subst (λ (n : ℕ). n % 4 ≡ 0) is (by xs k low)
-  where
-    by : (ys : List ℕ) (j : ℕ) → j < length (map word_address ys) → slice_index_or (map word_address ys) j a % 4 ≡ 0
-    by [] j h = absurd (omega (arith, h))
-    by (y ∷ ys) zero h = omega arith
-    by (y ∷ ys) (suc j) h = by ys j (omega (arith, h))
-
 pub label_whole : (image : ProgramImage) (entries : List ℕ) (a : ℕ) → HasLabel image entries a → a % 4 ≡ 0
 label_whole image entries a (some, inl is) = target_whole image entries a is
-label_whole image entries a (some, inr is) = entry_whole entries a is
+label_whole image entries a (some, inr is) = code_whole image entries a is.1
 
 -- names are the labels and the mark of the start that stand at addresses of a kind, each once
 pub record AreThose (image : ProgramImage) (entries : List ℕ) (names : List (List ℕ)) (Kind : ℕ → Type 0)

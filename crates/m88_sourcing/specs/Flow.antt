@@ -1,5 +1,5 @@
 -- Where an instruction leads, without a look at registers ("Instruction Set": flow-control instructions).
-use Rattle.std.specs.Prelude.{ℕ, Bool, true, false, not, ◌==◌, ◌&&◌, Option, Some, None, if◌then◌else◌}
+use Rattle.std.specs.Prelude.{ℕ, ℤ, Bool, true, false, not, ◌==◌, ◌&&◌, Option, Some, None, if◌then◌else◌}
 use Rattle.m88_base.specs.Reg.{number_of}
 use Rattle.m88_isa.specs.Address.{after_bytes}
 use Rattle.m88_isa.specs.Flow.{words_away}
@@ -8,11 +8,18 @@ use Rattle.m88_isa.specs.declared.instr.ImmOp.TheVariants.{Or}
 use Rattle.m88_isa.specs.declared.instr.Instr.{Instr}
 use Rattle.m88_isa.specs.declared.instr.Instr.TheVariants as instr
 
--- where the program goes on behind an instruction, or comes back to: behind a call and its slot; nowhere behind a
--- branch or jump that is always taken, or behind a return from an exception
+-- a branch with a delay slot leads right behind that: the machine goes on through the slot, where an instruction is
+-- carried out as anywhere, so it is no slot ("Instruction Set": delayed branching)
+abbrev pub is_through_slot : ℕ → Bool → ℤ → Bool
+is_through_slot pc delayed words = delayed && words_away pc words == after_bytes pc 8
+
+-- where the program goes on behind an instruction, or comes back to: behind a call and its slot; into the slot of a branch
+-- that goes through it; nowhere behind another branch or a jump that is always taken, or behind a return from an exception
 abbrev pub goes_on_to : ℕ → Instr → Option ℕ
-goes_on_to pc (instr.Branch false delayed words) = None
-goes_on_to pc (instr.Branch true delayed words) = Some (after_bytes pc (if delayed then 8 else 4))
+goes_on_to pc (instr.Branch link delayed words) =
+    if is_through_slot pc delayed words then Some (after_bytes pc 4)
+    else if link then Some (after_bytes pc (if delayed then 8 else 4))
+    else None
 goes_on_to pc (instr.Jump false delayed s2) = None
 goes_on_to pc (instr.Jump true delayed s2) = Some (after_bytes pc (if delayed then 8 else 4))
 goes_on_to pc instr.Rte = None

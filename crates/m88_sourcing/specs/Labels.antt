@@ -26,10 +26,13 @@ BranchesTo image a t = (i : Instr) × HoldsInstruction image a i × (branch_targ
 abbrev pub IsTarget : ProgramImage → List ℕ → ℕ → Type 0
 IsTarget image entries t = (from : ℕ) × IsCode image entries from × BranchesTo image from t
 
--- an address has a label: a byte is there, and a branch leads to it, or code was said to begin there
+-- code begins at an address as was said: it is the word of an entry, and it is code
+abbrev pub IsEntry : ProgramImage → List ℕ → ℕ → Type 0
+IsEntry image entries a = Contains (map word_address entries) a × IsCode image entries a
+
+-- an address has a label: a byte is there, and a branch leads to it, or code begins there as was said
 abbrev pub HasLabel : ProgramImage → List ℕ → ℕ → Type 0
-HasLabel image entries a =
-    IsSome (byte_at image a) × (IsTarget image entries a ⊎ Contains (map word_address entries) a)
+HasLabel image entries a = IsSome (byte_at image a) × (IsTarget image entries a ⊎ IsEntry image entries a)
 
 -- the text of a branch that names its target
 abbrev pub named_text : Instr → List ℕ → List ℕ

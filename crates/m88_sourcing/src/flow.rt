@@ -1,18 +1,42 @@
 //! Where an instruction leads, without a look at registers.
 ghost use Rattle.std.specs.Prelude.{◌≡◌, ℕ, IsTrue, None};
-ghost use Rattle.m88_sourcing.specs.Flow.{asks_for_end, goes_on_to, calls_monitor, slot, branch_target};
+ghost use Rattle.m88_isa.specs.declared.instr.Instr.TheVariants.{Branch};
+ghost use Rattle.m88_sourcing.specs.Flow.{asks_for_end, calls_monitor, goes_on_to, is_through_slot, slot, branch_target};
 
 use m88_isa::{EXIT_SERVICE, ImmOp, Instr, MONITOR_TRAP, SERVICE_REGISTER, words_away};
+
+/// Whether a branch with a delay slot leads right behind that.
+fn is_through_slot(pc: u32, delayed: bool, words: i32) -> bool
+    ensures { result ≡ is_through_slot pc delayed words }
+{
+    delayed && words_away(pc, words) == pc.wrapping_add(8)
+}
+
+/// Where the program goes on behind a branch that is always taken, or comes back to.
+fn goes_on_behind(pc: u32, link: bool, delayed: bool, words: i32) -> Option<u32>
+    ensures { result ≡ goes_on_to pc (Branch link delayed words) }
+{
+    if is_through_slot(pc, delayed, words) {
+        Some(pc.wrapping_add(4))
+    } else if link {
+        Some(pc.wrapping_add(if delayed { 8 } else { 4 }))
+    } else {
+        None
+    }
+}
 
 /// Where the program goes on behind an instruction, or comes back to.
 pub(crate) fn goes_on_to(pc: u32, instr: &Instr) -> Option<u32>
     ensures { result ≡ goes_on_to pc instr.now }
 {
     match *instr {
-        Instr::Branch { link: false, .. } | Instr::Jump { link: false, .. } | Instr::Rte => None,
-        Instr::Branch { delayed, .. } | Instr::Jump { delayed, .. } => {
-            Some(pc.wrapping_add(if delayed { 8 } else { 4 }))
-        }
+        Instr::Branch {
+            link,
+            delayed,
+            words,
+        } => goes_on_behind(pc, link, delayed, words),
+        Instr::Jump { link: false, .. } | Instr::Rte => None,
+        Instr::Jump { delayed, .. } => Some(pc.wrapping_add(if delayed { 8 } else { 4 })),
         _ => Some(pc.wrapping_add(4)),
     }
 }

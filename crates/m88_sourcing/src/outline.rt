@@ -92,14 +92,14 @@ pub(crate) fn note_word(
     Ok(Noted::Now(label))
 }
 
-/// Notes the word of an address at which code was said to begin.
-pub(crate) fn note_entry(labels: &mut Words, image: &Image, entry: u32) -> Result<(), AllocError>
+/// Notes the word of an address at which code was said to begin, where it is code.
+pub(crate) fn note_entry(labels: &mut Words, code: &Words, entry: u32) -> Result<(), AllocError>
     ensures { OnOk result ((a : ℕ) → IsTrue (contains labels.new a)
         ↔ (IsTrue (contains labels.old a)
-        ⊎ ((a ≡ word_address entry) × IsSome (byte_at image.now a)))) }
+        ⊎ ((a ≡ word_address entry) × IsTrue (contains code.now a)))) }
 {
     let at = entry / 4 * 4;
-    if image.byte(at).is_some() {
+    if code.contains(at) {
         labels.insert(at)?;
     }
     Ok(())

@@ -209,7 +209,7 @@ pub(crate) fn outline_of(
 {
     let mut outline = code_words(alloc, image, entries)?;
     for entry in entries {
-        note_entry(&mut outline.labels, image, *entry)?;
+        note_entry(&mut outline.labels, &outline.code, *entry)?;
     }
     outline.far.sort_unstable();
     outline.far.dedup();

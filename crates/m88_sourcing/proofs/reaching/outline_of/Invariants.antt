@@ -13,7 +13,8 @@ invariant-loop-entry l = record {
   code : (a : ℕ) → IsTrue (contains l.outline.code a) ↔ IsCode l.image l.entries a;
   labels : (a : ℕ) → IsTrue (contains l.outline.labels a)
       ↔ (IsSome (byte_at l.image a)
-      × (IsTarget l.image l.entries a ⊎ Contains (map word_address (take l.entry-index l.entries)) a));
+      × (IsTarget l.image l.entries a
+      ⊎ (Contains (map word_address (take l.entry-index l.entries)) a × IsCode l.image l.entries a)));
   far : (a : ℕ) → Contains l.outline.far.items a
       ↔ (IsTarget l.image l.entries a × (byte_at l.image a ≡ None));
 }
