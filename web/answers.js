@@ -47,11 +47,11 @@ class Programs {
   }
 
   begin() {
-    this.waiting = new Map();
+    const waiting = this.waiting = new Map();
     this.worker = new Worker(WORKER);
     this.worker.onmessage = ({ data: { number, ...answer } }) => {
-      this.waiting.get(number).resolve(answer);
-      this.waiting.delete(number);
+      waiting.get(number).resolve(answer);
+      waiting.delete(number);
     };
     this.worker.onerror = ({ message }) => this.end(new Error(message));
   }
