@@ -14,3 +14,4 @@ pub mod Touched
 pub mod Alike
 pub mod Faulted
 pub mod CaughtUp
+pub mod Laws

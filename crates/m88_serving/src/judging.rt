@@ -47,7 +47,7 @@ fn fault_of_kind(line: u64, kind: ServeKind) -> ServeFault
 
 /// Whether a word is the status that a board may have at a data fault.
 #[tactic(auto, unfolding(crate::specs::Faults::is_status))]
-fn is_status(word: u32) -> bool
+pub fn is_status(word: u32) -> bool
     ensures { result ≡ is_status word }
 {
     word == 0x0000_03F8 || word == 0x0000_03FC || word == 0x1000_03F8 || word == 0x1000_03FC

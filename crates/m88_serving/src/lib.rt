@@ -23,6 +23,7 @@ mod program;
 
 pub use entering::control_left;
 pub use fault::{ServeFault, ServeKind};
+pub use judging::is_status;
 pub use lines::last_word;
 pub use program::m88serve;
 pub use telling::{ToldCase, Untold, told_case};
