@@ -1,0 +1,4 @@
+-- Words for the contracts of private functions alone: no promise of the program names them.
+pub mod Steps
+pub mod Served
+pub mod Entered
