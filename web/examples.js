@@ -9,7 +9,7 @@ four_loads | three loads and a stall | 6 | iiiirii |  | 15 | BOARD | ./m88 run 5
 double | a double word | 2 | iir |  | 9 | BOARD | ./m88 run 3 2 iir < examples/double.s
 exchange | a lock, by an exchange | 2 | iiir |  | 10 | BOARD | ./m88 run 100 2 iiir < examples/exchange.s
 half_fault | half of a double word | none | ireiiriirerii |  | 13 | BOARD | ./m88 run 100 none ireiiriirerii < examples/half_fault.s
-sum | a sum over an absent table | all | iiirrr |  | 31 | BOARD | ./m88 run 1000 all iiirrr < examples/sum.s
+sum | a sum over an absent table | all | iiirrr |  | 31 | EXAMPLES | ./m88 run 1000 all iiirrr < examples/sum.s
 list_walk | a list in four pages | 5,6,7,8 | iiiiiriiiiiirriiiiiirriiiiiirr |  | 42 | EXAMPLES | \
 ./m88 run 100 5,6,7,8 iiiiiriiiiiirriiiiiirriiiiiirr < examples/list_walk.s
 hex_dump | a dump, by subroutines | all | - |  | 39 | EXAMPLES | ./m88 run 10000 all - < examples/hex_dump.s
@@ -20,9 +20,9 @@ merge | two tables merged | all | iiirrr |  | 47 | EXAMPLES | ./m88 trace 1000 a
 print_a | puts the letter A out | none | - |  | 0 | README | ./m88 run 100 none - < examples/print_a.s
 loop | puts five letters out | none | - |  | 0 | BOARD | ./m88 run 100 none - < examples/loop.s
 reverse | turns a text round | all | - |  | 0 | EXAMPLES | ./m88 run 1000 all - < examples/reverse.s
-two_modes | misaligned addresses, rounded down | 2 | iiiiir | mxm | 0 | EXAMPLES | ./m88 run 100 2 iiiiir mxm < examples/two_modes.s
+two_modes | misaligned addresses, rounded down | 2 | iiiiir | mxm | 0 | ISA | ./m88 run 100 2 iiiiir mxm < examples/two_modes.s
 two_modules | two modules | none | - |  | 0 | README | ./m88 run 100 none - < examples/two_modules.s
-rom | a ROM | none | - |  | 0 | ROM | ./m88 run 1000 none - < examples/rom.s
+rom | a ROM | none | - |  | 0 | EXAMPLES | ./m88 run 1000 none - < examples/rom.s
 `.trim().split("\n").map(exampleOf);
 
 function exampleOf(text) {
