@@ -1,6 +1,7 @@
 -- The pieces of an image, and the lines of words, stretches and pieces before the others.
-use Rattle.std.proofs.Common.{◌≡◌, ℕ, zero, suc, ◌+◌, ◌*◌, ◌-◌, ◌/◌, ◌%◌, ◌<◌, Bool, inl, inr, List, [], ◌∷◌, ◌++◌, take, drop, refl, ap, subst, ◌∙◌, arith}
+use Rattle.std.proofs.Common.{◌≡◌, ℕ, zero, suc, ◌+◌, ◌*◌, ◌-◌, ◌/◌, ◌%◌, ◌<◌, Bool, inl, inr, List, [], ◌∷◌, ◌++◌, length, take, drop, refl, ap, subst, sym, ◌∙◌, arith}
 use Rattle.std.specs.Prelude.{◌↔◌, None}
+use Rattle.std.proofs.lemmas.List.{length-take-le}
 use Rattle.m88_base.specs.Appended.{AreAppended}
 use Rattle.m88_base.specs.Found.{IsPart}
 use Rattle.m88_base.specs.Image.{ProgramImage, byte_at}
@@ -16,7 +17,8 @@ use Rattle.m88_sourcing.specs.Data.{AreDataLines}
 use Rattle.m88_sourcing.specs.Inside.Appended.{FrontAppended}
 use Rattle.m88_sourcing.specs.Inside.Members.{among_words}
 use Rattle.m88_sourcing.specs.Labels.{HasLabel, code_text}
-use Rattle.m88_sourcing.specs.Source.{AreCodeLines, AreLooseLines, ArePieceLines, IsLabelled, IsPiece, IsStartMarked, IsStretch, LineWhere}
+use Rattle.m88_sourcing.specs.Said.{Said, Stays}
+use Rattle.m88_sourcing.specs.Source.{AreCodeLines, AreLooseLines, ArePieceLines, IsCutPiece, IsLabelled, IsPiece, IsStartMarked, IsStretch, LineWhere}
 use Rattle.m88_sourcing.specs.Source.LineWhere.{so, not_so}
 use Rattle.m88_sourcing.specs.Source.AreCodeLines.{no_word, word}
 use Rattle.m88_sourcing.specs.Source.AreLooseLines.{stretch}
@@ -33,15 +35,15 @@ reached_stands : (image : ProgramImage) (seeds : List ℕ) (a : ℕ) → IsReach
 reached_stands image seeds a (begins seed stands) = stands
 reached_stands image seeds a (leads from led) = led.4
 
-pub code_stands : (image : ProgramImage) (entries : List ℕ) (a : ℕ) → IsCode image entries a → HasInstruction image a
-code_stands image entries a (reached r) = reached_stands image _ a r
-code_stands image entries a (in_slot b r is_slot) = is_slot.3
+pub code_stands : (image : ProgramImage) (said : Said) (a : ℕ) → IsCode image said a → HasInstruction image a
+code_stands image said a (reached r) = reached_stands image _ a r
+code_stands image said a (in_slot b r is_slot) = is_slot.3
 
 -- where no byte is no code is
-pub no_code_there : (image : ProgramImage) (entries : List ℕ) (a : ℕ) → byte_at image a ≡ None
-    → ¬ InCode image entries a
-no_code_there image entries a none is =
-    no_byte_within image (word_address a) (a - word_address a) (code_stands image entries (word_address a) is)
+pub no_code_there : (image : ProgramImage) (said : Said) (a : ℕ) → byte_at image a ≡ None
+    → ¬ InCode image said a
+no_code_there image said a none is =
+    no_byte_within image (word_address a) (a - word_address a) (code_stands image said (word_address a) is)
     (omega arith) (ap (byte_at image) (let e : word_address a + (a - word_address a) ≡ a = omega arith in e) ∙ none)
 
 -- where a part begins within a word no instruction stands
@@ -83,11 +85,11 @@ lines_where P Q line old new same l = record {
 }
 
 -- the lines of a word of code, before those of the others
-pub word_front : (image : ProgramImage) (entries : List ℕ) (at n : ℕ) (i : Instr) (t0 t1 t2 t3 : List ℕ)
-    → HoldsInstruction image at i → AreAppended (IsLabelled image entries at) t0 t1
+pub word_front : (image : ProgramImage) (said : Said) (at n : ℕ) (i : Instr) (t0 t1 t2 t3 : List ℕ)
+    → HoldsInstruction image at i → AreAppended (IsLabelled image said at) t0 t1
     → AreAppended (IsStartMarked image at) t1 t2 → t3 ≡ t2 ++ (code_text at i ++ line_end)
-    → FrontAppended (AreCodeLines (λ _. []) image entries at (suc n)) (AreCodeLines (λ _. []) image entries (at + 4) n) t0 t3
-word_front image entries at n i t0 t1 t2 t3 stands label start text_is =
+    → FrontAppended (AreCodeLines (λ _. []) image said at (suc n)) (AreCodeLines (λ _. []) image said (at + 4) n) t0 t3
+word_front image said at n i t0 t1 t2 t3 stands label start text_is =
     λ lines are. record {
       lines = label.lines ++ (start.lines ++ code_text at i ∷ lines);
       are = word i stands label.are start.are are;
@@ -98,14 +100,14 @@ word_front image entries at n i t0 t1 t2 t3 stands label start text_is =
     }
 
 -- one word of code more
-pub next_word : (image : ProgramImage) (entries : List ℕ) (at index words here : ℕ) (t1 t2 : List ℕ) → index < words
+pub next_word : (image : ProgramImage) (said : Said) (at index words here : ℕ) (t1 t2 : List ℕ) → index < words
     → here ≡ at + 4 * index
-    → ((n : ℕ) → FrontAppended (AreCodeLines (λ _. []) image entries here (suc n))
-    (AreCodeLines (λ _. []) image entries (here + 4) n) t1 t2)
-    → FrontAppended (AreCodeLines (λ _. []) image entries (at + 4 * index) (words - index))
-    (AreCodeLines (λ _. []) image entries (at + 4 * (index + 1)) (words - (index + 1))) t1 t2
-next_word image entries at index words here t1 t2 low here_is front =
-    let Are : ℕ → ℕ → List (List ℕ) → Type 0 = AreCodeLines (λ _. []) image entries in
+    → ((n : ℕ) → FrontAppended (AreCodeLines (λ _. []) image said here (suc n))
+    (AreCodeLines (λ _. []) image said (here + 4) n) t1 t2)
+    → FrontAppended (AreCodeLines (λ _. []) image said (at + 4 * index) (words - index))
+    (AreCodeLines (λ _. []) image said (at + 4 * (index + 1)) (words - (index + 1))) t1 t2
+next_word image said at index words here t1 t2 low here_is front =
+    let Are : ℕ → ℕ → List (List ℕ) → Type 0 = AreCodeLines (λ _. []) image said in
     let n : ℕ = words - (index + 1) in
     let left : suc n ≡ words - index = omega (arith, low) in
     let next : here + 4 ≡ at + 4 * (index + 1) = omega (arith, here_is) in
@@ -114,21 +116,21 @@ next_word image entries at index words here t1 t2 low here_is front =
     (subst (λ (a : ℕ). FrontAppended (Are a (suc n)) (Are (here + 4) n) t1 t2) here_is (front n)))
 
 -- all words of code
-pub all_code : (image : ProgramImage) (entries : List ℕ) (at index words : ℕ) (t0 t1 : List ℕ) → words ≡ index
-    → FrontAppended (AreCodeLines (λ _. []) image entries at words)
-    (AreCodeLines (λ _. []) image entries (at + 4 * index) (words - index)) t0 t1
-    → AreAppended (AreCodeLines (λ _. []) image entries at words) t0 t1
-all_code image entries at index words t0 t1 all front =
+pub all_code : (image : ProgramImage) (said : Said) (at index words : ℕ) (t0 t1 : List ℕ) → words ≡ index
+    → FrontAppended (AreCodeLines (λ _. []) image said at words)
+    (AreCodeLines (λ _. []) image said (at + 4 * index) (words - index)) t0 t1
+    → AreAppended (AreCodeLines (λ _. []) image said at words) t0 t1
+all_code image said at index words t0 t1 all front =
     let none : 0 ≡ words - index = omega (arith, all) in
     front_all _ _ t0 t1 front
-    (subst (λ (m : ℕ). AreCodeLines (λ _. []) image entries (at + 4 * index) m []) none no_word)
+    (subst (λ (m : ℕ). AreCodeLines (λ _. []) image said (at + 4 * index) m []) none no_word)
 
 -- the lines of a stretch, before those of the others
-pub stretch_front : (image : ProgramImage) (entries : List ℕ) (at n : ℕ) (bytes t0 t1 t2 : List ℕ)
-    → IsStretch (HasLabel image entries) at bytes n → AreAppended (IsLabelled image entries at) t0 t1
+pub stretch_front : (image : ProgramImage) (said : Said) (at n : ℕ) (bytes t0 t1 t2 : List ℕ)
+    → IsStretch (HasLabel image said) at bytes n → AreAppended (IsLabelled image said at) t0 t1
     → AreAppended (AreDataLines at (take n bytes)) t1 t2
-    → FrontAppended (AreLooseLines image entries at bytes) (AreLooseLines image entries (at + n) (drop n bytes)) t0 t2
-stretch_front image entries at n bytes t0 t1 t2 is label own =
+    → FrontAppended (AreLooseLines image said at bytes) (AreLooseLines image said (at + n) (drop n bytes)) t0 t2
+stretch_front image said at n bytes t0 t1 t2 is label own =
     λ lines are. record {
       lines = label.lines ++ (own.lines ++ lines);
       are = stretch n is label.are own.are are;
@@ -138,12 +140,12 @@ stretch_front image entries at n bytes t0 t1 t2 is label own =
     }
 
 -- the lines of a piece of code, before those of the others
-pub code_front : (image : ProgramImage) (entries : List ℕ) (at n : ℕ) (bytes t0 t1 t2 : List ℕ)
-    → IsPiece (InCode image entries) at bytes (4 * n) → t1 ≡ t0 ++ (place_line at ++ line_end)
-    → AreAppended (AreCodeLines (λ _. []) image entries at n) t1 t2
-    → FrontAppended (ArePieceLines (λ _. []) image entries at bytes)
-    (ArePieceLines (λ _. []) image entries (at + 4 * n) (drop (4 * n) bytes)) t0 t2
-code_front image entries at n bytes t0 t1 t2 is place own =
+pub code_front : (image : ProgramImage) (said : Said) (at n : ℕ) (bytes t0 t1 t2 : List ℕ)
+    → IsCutPiece (InCode image said) (Stays said) at bytes (4 * n) → t1 ≡ t0 ++ (place_line at ++ line_end)
+    → AreAppended (AreCodeLines (λ _. []) image said at n) t1 t2
+    → FrontAppended (ArePieceLines (λ _. []) image said at bytes)
+    (ArePieceLines (λ _. []) image said (at + 4 * n) (drop (4 * n) bytes)) t0 t2
+code_front image said at n bytes t0 t1 t2 is place own =
     λ lines are. record {
       lines = place_line at ∷ own.lines ++ lines;
       are = code n is own.are are;
@@ -152,12 +154,12 @@ code_front image entries at n bytes t0 t1 t2 is place own =
     }
 
 -- the lines of a piece that is no code, before those of the others
-pub loose_front : (image : ProgramImage) (entries : List ℕ) (at n : ℕ) (bytes t0 t1 t2 : List ℕ)
-    → IsPiece (λ a. ¬ InCode image entries a) at bytes n → t1 ≡ t0 ++ (place_line at ++ line_end)
-    → AreAppended (AreLooseLines image entries at (take n bytes)) t1 t2
-    → FrontAppended (ArePieceLines (λ _. []) image entries at bytes)
-    (ArePieceLines (λ _. []) image entries (at + n) (drop n bytes)) t0 t2
-loose_front image entries at n bytes t0 t1 t2 is place own =
+pub loose_front : (image : ProgramImage) (said : Said) (at n : ℕ) (bytes t0 t1 t2 : List ℕ)
+    → IsPiece (λ a. ¬ InCode image said a) at bytes n → t1 ≡ t0 ++ (place_line at ++ line_end)
+    → AreAppended (AreLooseLines image said at (take n bytes)) t1 t2
+    → FrontAppended (ArePieceLines (λ _. []) image said at bytes)
+    (ArePieceLines (λ _. []) image said (at + n) (drop n bytes)) t0 t2
+loose_front image said at n bytes t0 t1 t2 is place own =
     λ lines are. record {
       lines = place_line at ∷ own.lines ++ lines;
       are = loose n is own.are are;
@@ -189,3 +191,26 @@ stretch_of K L at bytes n same p = record {
     | inr labelled ↦ inr ((same (at + n)).0 labelled)
   ];
 }
+
+-- a piece up to the first place behind its first byte
+pub cut_piece : (K S : ℕ → Type 0) (at : ℕ) (bytes : List ℕ) (m n : ℕ) → IsPiece K at bytes m
+    → IsStretch S at (take m bytes) n → IsCutPiece K S at bytes n
+cut_piece K S at bytes m n p s =
+    let within = p.within in
+    let inside = s.within in
+    let size : length (take m bytes) ≡ m = length-take-le m bytes within in
+    record {
+      some = s.some;
+      within = omega (arith, within, inside, size);
+      even = λ k low. p.even k (omega (arith, low, inside, size));
+      plain = s.plain;
+      longest = elim s.longest [
+        | inl all ↦
+            let same : n ≡ m = all ∙ size in
+            elim p.longest [
+              | inl whole ↦ inl (same ∙ whole)
+              | inr other ↦ inr (inl (subst (λ (j : ℕ). ¬ K (at + j)) (sym same) other))
+            ]
+        | inr place ↦ inr (inr place)
+      ];
+    }

@@ -44,13 +44,15 @@ use Rattle.m88_sourcing.specs.Flow.{branch_target}
 use Rattle.m88_sourcing.specs.Insertion.{IsCarriedBy, IsFoundAgain, IsAgainAt, LeadsAgain, MovesCodeAlone}
 use Rattle.m88_sourcing.specs.Insertion.IsAgainAt.{carried, stays}
 use Rattle.m88_sourcing.specs.Labels.{label_of}
+use Rattle.m88_sourcing.specs.Said.{Said}
 use Rattle.m88_sourcing.specs.Targets.{counting}
 use Rattle.m88_sourcing.proofs.Accepted.{IsNear, not_too_far, uses_near}
 use Rattle.m88_sourcing.proofs.Branching.{BranchesThere, branches_there}
 use Rattle.m88_sourcing.proofs.Moved.{StartsAt, found_one, newly}
 use Rattle.m88_sourcing.proofs.Names.{IsNameable, named, no_start, one_name}
 use Rattle.m88_sourcing.proofs.OneInstruction.{no_byte_within, same_instruction}
-use Rattle.m88_sourcing.proofs.Parted.{HasRoom, IsPartedAs, Parted, has_room, parted, parted_as, parted_runs, parted_tame}
+use Rattle.m88_sourcing.proofs.Parted.{HasRoom, IsPartedAs, Parted, has_room, not_past, parted, parted_as, parted_runs, parted_tame}
+use Rattle.m88_sourcing.proofs.Piecing.{stays_whole}
 use Rattle.m88_sourcing.proofs.Places.{AllAt, AreNumbers, HasAt, IsBranchAt, IsPlain, IsSimple, WaitsFor, branch_kind, place_behind}
 use Rattle.m88_sourcing.proofs.Placing.{ArePlaced, IsInReach, IsPlaced, bytes_placed, pieces_from, placed_parts, placed_skeleton, reach_placed}
 use Rattle.m88_sourcing.proofs.Rebuilt.{code_some}
@@ -62,12 +64,12 @@ use Rattle.m88_sourcing.proofs.Told.{code_whole, some_is, target_named}
 pub old_value : ProgramImage → List ℕ → ℕ
 old_value image name = if bytes_eq name (codes "_start") then image.start else digits_value 16 (drop 1 name)
 
-pub old_means : (image : ProgramImage) (entries : List ℕ) → Means (named image entries) (old_value image)
+pub old_means : (image : ProgramImage) (said : Said) → Means (named image said) (old_value image)
 unfolding old_value
-old_means image entries name a old = by (bytes_eq name (codes "_start")) refl old.1
+old_means image said name a old = by (bytes_eq name (codes "_start")) refl old.1
   where
     by : (t : Bool) → bytes_eq name (codes "_start") ≡ t
-        → (((name ≡ codes "_start") × (a ≡ image.start)) ⊎ ((name ≡ label_of a) × IsNameable image entries a))
+        → (((name ≡ codes "_start") × (a ≡ image.start)) ⊎ ((name ≡ label_of a) × IsNameable image said a))
         → (if t then image.start else digits_value 16 (drop 1 name)) ≡ a
     by true e (inl x) = sym x.1
     by true e (inr x) = absurd (no_start a (sym x.0 ∙ (bytes_eq-Decides name (codes "_start")).0 e))
@@ -176,38 +178,44 @@ four_same byte other p q each =
     ∙ ap (λ o. word_bytes (other q) (other (q + 1)) (other (q + 2)) o) (each 3 (omega arith))
 
 -- a word of code is found again whole
-found_within : (image : ProgramImage) (entries : List ℕ) (w a p k : ℕ) → IsCode image entries w → IsCode image entries a
-    → k < 4 → IsAgainAt image entries w a p → IsAgainAt image entries w (a + k) (p + k)
-found_within image entries w a p k code_w code low found = by found
+found_within : (image : ProgramImage) (said : Said) (w a p k : ℕ) → IsCode image said w → IsCode image said a
+    → k < 4 → IsAgainAt image said w a p → IsAgainAt image said w (a + k) (p + k)
+found_within image said w a p k code_w code low found = by found
   where
     aligned : a % 4 ≡ 0
-    aligned = code_whole image entries a code
+    aligned = code_whole image said a code
 
     aligned_w : w % 4 ≡ 0
-    aligned_w = code_whole image entries w code_w
+    aligned_w = code_whole image said w code_w
 
-    within : (b : ℕ) → a ≤ b → b < a + 4 → InCode image entries b
+    within : (b : ℕ) → a ≤ b → b < a + 4 → InCode image said b
     within b from below =
-        subst (IsCode image entries) (let e : a ≡ word_address b = omega (arith, aligned, from, below) in e) code
+        subst (IsCode image said) (let e : a ≡ word_address b = omega (arith, aligned, from, below) in e) code
 
-    onto : IsCarriedBy image entries w a → IsCarriedBy image entries w (a + k)
+    onto : IsCarriedBy image said w a → IsCarriedBy image said w (a + k)
     onto c = (
       (let x = c.0 in omega (arith, x)),
       λ b up down. elim (cases_lt b a) [
         | inl before ↦ c.1 b up (omega (arith, before))
         | inr from ↦ within b from (omega (arith, down, low))
       ],
+      λ b up down place. elim (cases_lt a b) [
+        | inl behind ↦
+            let whole = stays_whole said b place in absurd (omega (arith, behind, down, low, aligned, whole))
+        | inr to ↦ c.2 b up to place
+      ],
     )
 
-    off : IsCarriedBy image entries w (a + k) → IsCarriedBy image entries w a
+    off : IsCarriedBy image said w (a + k) → IsCarriedBy image said w a
     off c = (
       (let x = c.0 in omega (arith, x, low, aligned, aligned_w)),
       λ b up down. c.1 b up (omega (arith, down)),
+      λ b up down. c.2 b up (omega (arith, down)),
     )
 
-    by : {q : ℕ} → IsAgainAt image entries w a q → IsAgainAt image entries w (a + k) (q + k)
+    by : {q : ℕ} → IsAgainAt image said w a q → IsAgainAt image said w (a + k) (q + k)
     by (carried c) =
-        let e : a + k + 4 ≡ a + 4 + k = omega arith in subst (IsAgainAt image entries w (a + k)) e (carried (onto c))
+        let e : a + k + 4 ≡ a + 4 + k = omega arith in subst (IsAgainAt image said w (a + k)) e (carried (onto c))
     by (stays none) = stays (λ c. none (off c))
 
 -- the uses of names behind statements that name values
@@ -223,16 +231,16 @@ near_behind Named g base ss c _ xs (a_set {xs = sets} n name col value named oth
     (located_cons c (unlabelled n (body.Set name col value)) (sets ++ xs)) near)
 
 -- a source with a statement more that is accepted
-record IsLaid (image : ProgramImage) (entries : List ℕ) (w : ℕ) (m : Parted image entries w) : Type 0 where
-  room : HasRoom image entries w m
-  told : IsPartedAs image entries w m
+record IsLaid (image : ProgramImage) (said : Said) (w : ℕ) (m : Parted image said w) : Type 0 where
+  room : HasRoom image said w m
+  told : IsPartedAs image said w m
   -- its names
   g : List Symbol
   base : ℕ → ℕ
   ss : List Symbol
   value : List ℕ → ℕ
   value_is : (name : List ℕ) → value name ≡ unwrap_or (symbol_meaning g base ss name) 0
-  means : (name : List ℕ) (p : ℕ) → newly image entries w name p → symbol_meaning g base ss name ≡ Some p
+  means : (name : List ℕ) (p : ℕ) → newly image said w name p → symbol_meaning g base ss name ≡ Some p
   -- its bytes
   d : Placement Module
   placed : ArePlaced d at_begin 0 (parted m)
@@ -240,9 +248,9 @@ record IsLaid (image : ProgramImage) (entries : List ℕ) (w : ℕ) (m : Parted 
   bytes : (a : ℕ) → unit_byte (unit_of (m.f.statements ++ parted m)) a ≡ byte_among (pieces_from value 0 (parted m)) a
   start : unit_start (unit_of (m.f.statements ++ parted m)) ≡ told.start
 
-laid : (image : ProgramImage) (entries : List ℕ) (w : ℕ) (m : Parted image entries w) → IsImage image
-    → IsAcceptedUnit (unit_of (m.f.statements ++ parted m)) → IsLaid image entries w m
-laid image entries w m is accepted = record {
+laid : (image : ProgramImage) (said : Said) (w : ℕ) (m : Parted image said w) → IsImage image
+    → IsAcceptedUnit (unit_of (m.f.statements ++ parted m)) → IsLaid image said w m
+laid image said w m is accepted = record {
   room = room;
   told = told;
   g = g;
@@ -261,7 +269,7 @@ laid image entries w m is accepted = record {
       ap (λ (rs : List Placed). byte_among rs a) (append-nil (map (run_of g d) (lines_in (main all))))
       ∙ bytes_behind New g d a at_begin sets xs (byte_among (pieces_from (value_in_module g d) 0 xs) a)
       told.written.are_sets
-      empty_first (λ e h. bytes_placed g d a e 0 xs (parted_tame image entries w m) (placed e h));
+      empty_first (λ e h. bytes_placed g d a e 0 xs (parted_tame image said w m) (placed e h));
   start =
       ap (λ (gs : List Symbol). start_address (gs ++ []))
       (sym (globals_same all tame) ∙ ap (λ (zs : List Statement). globals_in (stood zs)) same)
@@ -269,7 +277,7 @@ laid image entries w m is accepted = record {
 }
   where
     New : Names
-    New = newly image entries w
+    New = newly image said w
 
     sets : List Statement
     sets = m.f.statements
@@ -291,25 +299,25 @@ laid image entries w m is accepted = record {
 
     tame : AreTame all
     tame =
-        tame_behind sets xs (sets_tame (named image entries) sets m.f.are_sets) (parted_tame image entries w m)
+        tame_behind sets xs (sets_tame (named image said) sets m.f.are_sets) (parted_tame image said w m)
 
-    room : HasRoom image entries w m
-    room = has_room image entries w m accepted
+    room : HasRoom image said w m
+    room = has_room image said w m accepted
 
-    told : IsPartedAs image entries w m
-    told = parted_as image entries w m is room
+    told : IsPartedAs image said w m
+    told = parted_as image said w m is room
 
     same : skeleton all ≡ sets ++ skeleton xs
     same =
         skeleton_behind sets xs
-        ∙ ap (λ (zs : List Statement). zs ++ skeleton xs) (sets_skeleton (named image entries) sets m.f.are_sets)
+        ∙ ap (λ (zs : List Statement). zs ++ skeleton xs) (sets_skeleton (named image said) sets m.f.are_sets)
 
     base_is : base_in (stood (sets ++ skeleton xs)) ≡ base_in d
     base_is = ap (λ (zs : List Statement). base_in (stood zs)) (sym same) ∙ bases_same all tame
 
     placed : (e : Counters) → Empty e → ArePlaced d e 0 xs
     placed e h =
-        placed_skeleton d (stood (sets ++ skeleton xs)) e 0 xs base_is (parted_tame image entries w m)
+        placed_skeleton d (stood (sets ++ skeleton xs)) e 0 xs base_is (parted_tame image said w m)
         (placed_parts New (stood (sets ++ skeleton xs)) e 2 0 runs (skeleton xs)
         (bases New told.start runs sets (skeleton xs) told.written) h.fresh room.order told.written.datas)
 
@@ -319,85 +327,83 @@ laid image entries w m is accepted = record {
     near : (e : Counters) × Empty e × AllByRecursion (IsNear g (base_in d) (symbols_in (main all)))
         (flat_map symbol_uses (located e xs))
     near =
-        near_behind (named image entries) g (base_in d) (symbols_in (main all)) at_begin sets xs m.f.are_sets
+        near_behind (named image said) g (base_in d) (symbols_in (main all)) at_begin sets xs m.f.are_sets
         empty_first
         (uses_near g (base_in d) (symbols_in (main all)) (flat_map symbol_uses (lines_in (main all))) too_far_none)
 
 -- a byte whose statement is plain is found again
-byte_there : (image : ProgramImage) (entries : List ℕ) (w : ℕ) (m : Parted image entries w)
-    → (l : IsLaid image entries w m)
-    → (a p : ℕ) → IsSome (byte_at image a) → IsAgainAt image entries w a p
-    → ((q : ℕ) (x : Statement) → IsBranchAt image entries q x → q ≤ a → a < q + 4 → ⊥)
+byte_there : (image : ProgramImage) (said : Said) (w : ℕ) (m : Parted image said w)
+    → (l : IsLaid image said w m)
+    → (a p : ℕ) → IsSome (byte_at image a) → IsAgainAt image said w a p
+    → ((q : ℕ) (x : Statement) → IsBranchAt image said q x → q ≤ a → a < q + 4 → ⊥)
     → unit_byte (unit_of (m.f.statements ++ parted m)) p ≡ byte_at image a
-byte_there image entries w m l a p some found none =
-    let r : HasRow l.value 0 (parted m) (IsByteAgain image entries w a) =
-    row_there l.value l.d at_begin 0 (parted m) (IsByteAgain image entries w a) l.placed
-    (find_byte image entries w m a some) in
+byte_there image said w m l a p some found none =
+    let r : HasRow l.value 0 (parted m) (IsByteAgain image said w a) =
+    row_there l.value l.d at_begin 0 (parted m) (IsByteAgain image said w a) l.placed
+    (find_byte image said w m a some) in
     let q : ℕ = r.is.q in
     let from = r.is.holds.from in
     let below = r.is.holds.below in
-    let there : r.at + (a - q) ≡ p = found_one image entries w a (r.at + (a - q)) p r.is.found found in
+    let there : r.at + (a - q) ≡ p = found_one image said w a (r.at + (a - q)) p r.is.found found in
     let plain : IsPlain r.x.body = by q r.x r.is.holds.simple from below in
     sym (ap (unit_byte (unit_of (m.f.statements ++ parted m))) there)
     ∙ l.bytes (r.at + (a - q))
-    ∙ row_byte l.value 0 (parted m) (IsByteAgain image entries w a) r (a - q) (omega (arith, from, below))
+    ∙ row_byte l.value 0 (parted m) (IsByteAgain image said w a) r (a - q) (omega (arith, from, below))
     ∙ ap (λ (bs : List ℕ). slice_get bs (a - q)) (plain_bytes l.value (old_value image) r.at q r.x.body plain)
-    ∙ r.is.holds.byte (old_value image) (old_means image entries)
+    ∙ r.is.holds.byte (old_value image) (old_means image said)
   where
-    by : (q : ℕ) (x : Statement) → IsSimple image entries q x → q ≤ a → a < q + length_at 0 x.body → IsPlain x.body
+    by : (q : ℕ) (x : Statement) → IsSimple image said q x → q ≤ a → a < q + length_at 0 x.body → IsPlain x.body
     by q x (inl plain) from below = plain
     by q x (inr b) from below =
         let size : length_at 0 x.body ≡ 4 = ap (length_at 0) (WaitsFor.body_is b.waits) in
         absurd (none q x b from (omega (arith, below, size)))
 
 -- where code is found again is below the last address
-found_low : (image : ProgramImage) (entries : List ℕ) (w : ℕ) (m : Parted image entries w) → IsImage image
-    → HasRoom image entries w m → (a p : ℕ) → IsCode image entries a → IsAgainAt image entries w a p → p < 2 ^ 32
-found_low image entries w m is room a p code found = by found
+found_low : (image : ProgramImage) (said : Said) (w : ℕ) (m : Parted image said w) → IsImage image
+    → HasRoom image said w m → (a p : ℕ) → IsCode image said a → IsAgainAt image said w a p → p < 2 ^ 32
+found_low image said w m is room a p code found = by found
   where
     low : a < 2 ^ 32
-    low = by_byte (byte_at image a) (is.bytes a) (code_some image entries a code)
+    low = by_byte (byte_at image a) (is.bytes a) (code_some image said a code)
       where
         by_byte : (o : Option ℕ) → IfSome o (λ b. (a < 2 ^ 32) × (b < 256)) → IsSome o → a < 2 ^ 32
         by_byte None h k = absurd cc
         by_byte (Some b) h k = h.0
 
-    by : {q : ℕ} → IsAgainAt image entries w a q → q < 2 ^ 32
+    by : {q : ℕ} → IsAgainAt image said w a q → q < 2 ^ 32
     by (stays none) = low
     by (carried c) = elim (cases_lt a m.l.e) [
       | inl before ↦ let x = room.low in omega (arith, x, before)
-      | inr past ↦
-          let b_ends = m.l.b_ends in
-          absurd (m.l.ends (c.1 m.l.e (omega (arith, b_ends)) past))
+      | inr past ↦ absurd (not_past image said w m a past c)
     ]
 
-found_whole : (image : ProgramImage) (entries : List ℕ) (w a p : ℕ) → a % 4 ≡ 0 → IsAgainAt image entries w a p
+found_whole : (image : ProgramImage) (said : Said) (w a p : ℕ) → a % 4 ≡ 0 → IsAgainAt image said w a p
     → p % 4 ≡ 0
-found_whole image entries w a _ whole (carried c) = omega (arith, whole)
-found_whole image entries w a _ whole (stays none) = whole
+found_whole image said w a _ whole (carried c) = omega (arith, whole)
+found_whole image said w a _ whole (stays none) = whole
 
 -- a word of code that is no branch
-plain_found : (image : ProgramImage) (entries : List ℕ) (w : ℕ) (m : Parted image entries w)
-    → (l : IsLaid image entries w m) → (a : ℕ) (i : Instr) → IsCode image entries w → IsCode image entries a
+plain_found : (image : ProgramImage) (said : Said) (w : ℕ) (m : Parted image said w)
+    → (l : IsLaid image said w m) → (a : ℕ) (i : Instr) → IsCode image said w → IsCode image said a
     → HoldsInstruction image a i → branch_target a i ≡ None
-    → IsFoundAgain image entries w (unit_byte (unit_of (m.f.statements ++ parted m))) a i
-plain_found image entries w m l a i code_w code stands none =
-    let r : HasRow l.value 0 (parted m) (IsByteAgain image entries w a) =
-    row_there l.value l.d at_begin 0 (parted m) (IsByteAgain image entries w a) l.placed
-    (find_byte image entries w m a (code_some image entries a code)) in
+    → IsFoundAgain image said w (unit_byte (unit_of (m.f.statements ++ parted m))) a i
+plain_found image said w m l a i code_w code stands none =
+    let r : HasRow l.value 0 (parted m) (IsByteAgain image said w a) =
+    row_there l.value l.d at_begin 0 (parted m) (IsByteAgain image said w a) l.placed
+    (find_byte image said w m a (code_some image said a code)) in
     let p : ℕ = r.at + (a - r.is.q) in
-    let found : IsAgainAt image entries w a p = r.is.found in
+    let found : IsAgainAt image said w a p = r.is.found in
     let each : (k : ℕ) → k < 4
     → unit_byte (unit_of (m.f.statements ++ parted m)) (p + k) ≡ byte_at image (a + k) = λ k low.
-    byte_there image entries w m l (a + k) (p + k) (some_there k low)
-    (found_within image entries w a p k code_w code low found) (no_branch_there k low) in
+    byte_there image said w m l (a + k) (p + k) (some_there k low)
+    (found_within image said w a p k code_w code low found) (no_branch_there k low) in
     record {
       at = p;
       words = pos 0;
       found = found;
       stands =
           subst (HasWordOf (unit_byte (unit_of (m.f.statements ++ parted m))) p) (sym (not_counted i none)) (
-            found_whole image entries w a p stands.0.0 found,
+            found_whole image said w a p stands.0.0 found,
             (
               stands.0.1.0,
               four_same (unit_byte (unit_of (m.f.statements ++ parted m))) (byte_at image) p a each ∙ stands.0.1.1,
@@ -405,7 +411,7 @@ plain_found image entries w m l a i code_w code stands none =
             ),
           );
       leads =
-          subst (λ (o : Option ℕ). LeadsAgain image entries w o (branch_target p (counting (pos 0) i))) (sym none)
+          subst (λ (o : Option ℕ). LeadsAgain image said w o (branch_target p (counting (pos 0) i))) (sym none)
           (ap (branch_target p) (not_counted i none) ∙ no_target i p none);
     }
   where
@@ -428,7 +434,7 @@ plain_found image entries w m l a i code_w code stands none =
         by (Some b) e = subst IsSome (sym e) refl
         by None e = absurd (no_byte_within image a k (i, stands) low e)
 
-    no_branch_there : (k : ℕ) → k < 4 → (q : ℕ) (x : Statement) → IsBranchAt image entries q x → q ≤ a + k
+    no_branch_there : (k : ℕ) → k < 4 → (q : ℕ) (x : Statement) → IsBranchAt image said q x → q ≤ a + k
         → a + k < q + 4
         → ⊥
     no_branch_there k low q x b from below =
@@ -445,37 +451,37 @@ plain_found image entries w m l a i code_w code stands none =
 
 -- a branch
 -- where its row was found it is the branch, with what its name means then as its target
-abbrev BranchRow : {image : ProgramImage} {entries : List ℕ} {w : ℕ} (m : Parted image entries w)
-    → IsLaid image entries w m → ℕ → ℕ → Statement → Type 0
-BranchRow {image = image} {entries = entries} {w = w} m l a q y =
-    IsBranchAgain image entries w a q y × IsInReach l.g l.base l.ss q y
+abbrev BranchRow : {image : ProgramImage} {said : Said} {w : ℕ} (m : Parted image said w)
+    → IsLaid image said w m → ℕ → ℕ → Statement → Type 0
+BranchRow {image = image} {said = said} {w = w} m l a q y =
+    IsBranchAgain image said w a q y × IsInReach l.g l.base l.ss q y
 
-label_leads : (image : ProgramImage) (entries : List ℕ) (w t u : ℕ) → t < 2 ^ 32 → newly image entries w (label_of t) u
-    → IsAgainAt image entries w t u
-label_leads image entries w t u low new = by new.1
+label_leads : (image : ProgramImage) (said : Said) (w t u : ℕ) → t < 2 ^ 32 → newly image said w (label_of t) u
+    → IsAgainAt image said w t u
+label_leads image said w t u low new = by new.1
   where
-    by : (((label_of t ≡ codes "_start") × StartsAt image entries w u)
-        ⊎ ((q : ℕ) × (label_of t ≡ label_of q) × (q < 2 ^ 32) × IsNameable image entries q
-        × IsAgainAt image entries w q u))
-        → IsAgainAt image entries w t u
+    by : (((label_of t ≡ codes "_start") × StartsAt image said w u)
+        ⊎ ((q : ℕ) × (label_of t ≡ label_of q) × (q < 2 ^ 32) × IsNameable image said q
+        × IsAgainAt image said w q u))
+        → IsAgainAt image said w t u
     by (inl x) = absurd (no_start t x.0)
     by (inr x) =
         let same : x.0 ≡ t = sym (one_name t x.0 low x.2 x.1) in
-        subst (λ (q : ℕ). IsAgainAt image entries w q u) same x.4
+        subst (λ (q : ℕ). IsAgainAt image said w q u) same x.4
 
 -- the statement of a branch gives the branch that leads to what its name means
-record GivesBranch (image : ProgramImage) (entries : List ℕ) (w : ℕ) (m : Parted image entries w)
-    (l : IsLaid image entries w m) (i : Instr) (p u : ℕ) (x : Statement) : Type 0 where
+record GivesBranch (image : ProgramImage) (said : Said) (w : ℕ) (m : Parted image said w)
+    (l : IsLaid image said w m) (i : Instr) (p u : ℕ) (x : Statement) : Type 0 where
   kind : Kind
   there : BranchesThere i kind p u
   given : filled_bytes l.value p 0 x.body ≡ to_be_bytes w32 (word_of (counting there.words i))
   long : length_at 0 x.body ≡ 4
 
-gives_branch : (image : ProgramImage) (entries : List ℕ) (w : ℕ) (m : Parted image entries w)
-    (l : IsLaid image entries w m) (a : ℕ) (i : Instr) (t p u : ℕ) (x : Statement) (b : IsBranchAt image entries a x)
-    → HoldsInstruction image a i → branch_target a i ≡ Some t → p < 2 ^ 32 → newly image entries w (label_of t) u
-    → IsInReach l.g l.base l.ss p x → GivesBranch image entries w m l i p u x
-gives_branch image entries w m l a i t p u x b stands to low new reach =
+gives_branch : (image : ProgramImage) (said : Said) (w : ℕ) (m : Parted image said w)
+    (l : IsLaid image said w m) (a : ℕ) (i : Instr) (t p u : ℕ) (x : Statement) (b : IsBranchAt image said a x)
+    → HoldsInstruction image a i → branch_target a i ≡ Some t → p < 2 ^ 32 → newly image said w (label_of t) u
+    → IsInReach l.g l.base l.ss p x → GivesBranch image said w m l i p u x
+gives_branch image said w m l a i t p u x b stands to low new reach =
     let again : b.i ≡ i = same_instruction image a b.i i b.stands stands in
     let f : Fixup = b.waits.name in
     let symbol : f.symbol ≡ label_of t =
@@ -502,12 +508,12 @@ gives_branch image entries w m l a i t p u x b stands to low new reach =
       long = ap (length_at 0) b.waits.body_is;
     }
 
-branch_in : (image : ProgramImage) (entries : List ℕ) (w : ℕ) (m : Parted image entries w)
-    (l : IsLaid image entries w m) (a : ℕ) (i : Instr) (t u : ℕ) (r : HasRow l.value 0 (parted m) (BranchRow m l a))
-    → GivesBranch image entries w m l i r.at u r.x → HoldsInstruction image a i → branch_target a i ≡ Some t
-    → IsAgainAt image entries w t u
-    → IsFoundAgain image entries w (unit_byte (unit_of (m.f.statements ++ parted m))) a i
-branch_in image entries w m l a i t u r g stands to leads =
+branch_in : (image : ProgramImage) (said : Said) (w : ℕ) (m : Parted image said w)
+    (l : IsLaid image said w m) (a : ℕ) (i : Instr) (t u : ℕ) (r : HasRow l.value 0 (parted m) (BranchRow m l a))
+    → GivesBranch image said w m l i r.at u r.x → HoldsInstruction image a i → branch_target a i ≡ Some t
+    → IsAgainAt image said w t u
+    → IsFoundAgain image said w (unit_byte (unit_of (m.f.statements ++ parted m))) a i
+branch_in image said w m l a i t u r g stands to leads =
     let word : ℕ = word_of (counting g.there.words i) in
     let long = g.long in
     let each : (k : ℕ) → k < 4
@@ -520,7 +526,7 @@ branch_in image entries w m l a i t u r g stands to leads =
       words = g.there.words;
       found = r.is.0.found;
       stands = (
-        found_whole image entries w a r.at stands.0.0 r.is.0.found,
+        found_whole image said w a r.at stands.0.0 r.is.0.found,
         (
           word,
           four_of (unit_byte (unit_of (m.f.statements ++ parted m))) r.at (to_be_bytes w32 word) refl each,
@@ -528,56 +534,56 @@ branch_in image entries w m l a i t u r g stands to leads =
         ),
       );
       leads =
-          subst (λ (o : Option ℕ). LeadsAgain image entries w o (branch_target r.at (counting g.there.words i))) (sym to)
-          (subst (LeadsAgain image entries w (Some t)) (sym g.there.leads) leads);
+          subst (λ (o : Option ℕ). LeadsAgain image said w o (branch_target r.at (counting g.there.words i))) (sym to)
+          (subst (LeadsAgain image said w (Some t)) (sym g.there.leads) leads);
     }
 
-branch_found : (image : ProgramImage) (entries : List ℕ) (w : ℕ) (m : Parted image entries w)
-    → (l : IsLaid image entries w m) → IsImage image → (a : ℕ) (i : Instr) (t : ℕ) → IsCode image entries a
+branch_found : (image : ProgramImage) (said : Said) (w : ℕ) (m : Parted image said w)
+    → (l : IsLaid image said w m) → IsImage image → (a : ℕ) (i : Instr) (t : ℕ) → IsCode image said a
     → HoldsInstruction image a i → branch_target a i ≡ Some t
-    → IsFoundAgain image entries w (unit_byte (unit_of (m.f.statements ++ parted m))) a i
-branch_found image entries w m l is a i t code stands to =
+    → IsFoundAgain image said w (unit_byte (unit_of (m.f.statements ++ parted m))) a i
+branch_found image said w m l is a i t code stands to =
     let r : HasRow l.value 0 (parted m) (BranchRow m l a) =
     row_there l.value l.d at_begin 0 (parted m) (BranchRow m l a) l.placed
-    (has_all (IsBranchAgain image entries w a) (IsInReach l.g l.base l.ss) 0 (parted m)
-    (find_branch image entries w m a i t code stands to) l.reach) in
-    let old : named image entries (label_of t) t = target_named image entries t (a, code, (i, stands, to)) in
-    let new : (u : ℕ) × newly image entries w (label_of t) u = l.told.means (label_of t) t old in
-    branch_in image entries w m l a i t new.0 r
-    (gives_branch image entries w m l a i t r.at new.0 r.x r.is.0.branch stands to
-    (found_low image entries w m is l.room a r.at code r.is.0.found) new.1 r.is.1)
-    stands to (label_leads image entries w t new.0 old.0 new.1)
+    (has_all (IsBranchAgain image said w a) (IsInReach l.g l.base l.ss) 0 (parted m)
+    (find_branch image said w m a i t code stands to) l.reach) in
+    let old : named image said (label_of t) t = target_named image said t (a, code, (i, stands, to)) in
+    let new : (u : ℕ) × newly image said w (label_of t) u = l.told.means (label_of t) t old in
+    branch_in image said w m l a i t new.0 r
+    (gives_branch image said w m l a i t r.at new.0 r.x r.is.0.branch stands to
+    (found_low image said w m is l.room a r.at code r.is.0.found) new.1 r.is.1)
+    stands to (label_leads image said w t new.0 old.0 new.1)
 
 -- so it is with the whole source
-pub moves_alone : (image : ProgramImage) (entries : List ℕ) (w : ℕ) (m : Parted image entries w) → IsImage image
-    → IsCode image entries w → IsAcceptedUnit (unit_of (m.f.statements ++ parted m))
-    → MovesCodeAlone image entries w (unit_of (m.f.statements ++ parted m))
-moves_alone image entries w m is code_w accepted = record {
+pub moves_alone : (image : ProgramImage) (said : Said) (w : ℕ) (m : Parted image said w) → IsImage image
+    → IsCode image said w → IsAcceptedUnit (unit_of (m.f.statements ++ parted m))
+    → MovesCodeAlone image said w (unit_of (m.f.statements ++ parted m))
+moves_alone image said w m is code_w accepted = record {
   stays = λ a some none.
-      byte_there image entries w m l a a some
+      byte_there image said w m l a a some
       (stays (λ c. none (c.1 a (let x = c.0 in omega (arith, x)) (omega arith))))
       (λ q x b from below.
       let whole = b.stands.0.0 in
       let e : q ≡ word_address a = omega (arith, whole, from, below) in
-      none (subst (IsCode image entries) e b.code));
+      none (subst (IsCode image said) e b.code));
   found = λ a i code stands. by a i code stands (branch_target a i) refl;
-  start = λ code. subst (IsAgainAt image entries w image.start) (sym l.start) (start_found code l.told.starts.1);
+  start = λ code. subst (IsAgainAt image said w image.start) (sym l.start) (start_found code l.told.starts.1);
 }
   where
-    l : IsLaid image entries w m
-    l = laid image entries w m is accepted
+    l : IsLaid image said w m
+    l = laid image said w m is accepted
 
-    by : (a : ℕ) (i : Instr) → IsCode image entries a → HoldsInstruction image a i → (o : Option ℕ)
+    by : (a : ℕ) (i : Instr) → IsCode image said a → HoldsInstruction image a i → (o : Option ℕ)
         → branch_target a i ≡ o
-        → IsFoundAgain image entries w (unit_byte (unit_of (m.f.statements ++ parted m))) a i
-    by a i code stands (Some t) to = branch_found image entries w m l is a i t code stands to
-    by a i code stands None none = plain_found image entries w m l a i code_w code stands none
+        → IsFoundAgain image said w (unit_byte (unit_of (m.f.statements ++ parted m))) a i
+    by a i code stands (Some t) to = branch_found image said w m l is a i t code stands to
+    by a i code stands None none = plain_found image said w m l a i code_w code stands none
 
-    start_found : IsCode image entries image.start → {p : ℕ}
-        → (((codes "_start" ≡ codes "_start") × StartsAt image entries w p)
-        ⊎ ((q : ℕ) × (codes "_start" ≡ label_of q) × (q < 2 ^ 32) × IsNameable image entries q
-        × IsAgainAt image entries w q p))
-        → IsAgainAt image entries w image.start p
+    start_found : IsCode image said image.start → {p : ℕ}
+        → (((codes "_start" ≡ codes "_start") × StartsAt image said w p)
+        ⊎ ((q : ℕ) × (codes "_start" ≡ label_of q) × (q < 2 ^ 32) × IsNameable image said q
+        × IsAgainAt image said w q p))
+        → IsAgainAt image said w image.start p
     start_found code (inl (same, inl x)) = x.1
     start_found code (inl (same, inr x)) = absurd (x.0 code)
     start_found code (inr x) = absurd (no_start x.0 (sym x.1))

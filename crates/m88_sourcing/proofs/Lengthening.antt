@@ -19,6 +19,7 @@ use Rattle.m88_disasm.proofs.Laws.{AreRead, ArePieces, pieces_of, read_all, read
 use Rattle.m88_sourcing.specs.Code.{IsCode}
 use Rattle.m88_sourcing.specs.Insertion.{IsInserted, MovesCodeAlone}
 use Rattle.m88_sourcing.specs.Laws.{EachKeepsItsBranches}
+use Rattle.m88_sourcing.specs.Said.{Said}
 use Rattle.m88_sourcing.specs.Source.{IsSourceWith, far_line}
 use Rattle.m88_sourcing.proofs.Inserted.{moves_alone}
 use Rattle.m88_sourcing.proofs.Lengthened.{Longer, LongerParts, longer_parts, put_behind}
@@ -78,31 +79,31 @@ no_alignment n (inr (inr (inr e))) four = no_four (sym (ap (λ (k : ℕ). length
     no_four f = absurd (omega (arith, f))
 
 -- the statements of the longer source
-record IsLengthened (image : ProgramImage) (entries : List ℕ) (w : ℕ) (longer : List ℕ) : Type 0 where
-  m : Parted image entries w
+record IsLengthened (image : ProgramImage) (said : Said) (w : ℕ) (longer : List ℕ) : Type 0 where
+  m : Parted image said w
   is_unit : IsUnit longer (unit_of (m.f.statements ++ parted m))
 
-lengthened : (image : ProgramImage) (entries : List ℕ) (w : ℕ) (longer : List ℕ) → IsImage image
-    → IsCode image entries w → IsInserted image entries w longer → IsLengthened image entries w longer
+lengthened : (image : ProgramImage) (said : Said) (w : ℕ) (longer : List ℕ) → IsImage image
+    → IsCode image said w → IsInserted image said w longer → IsLengthened image said w longer
 unfolding byte_at byte_count
-lengthened image entries w longer is code ins =
-    let s : IsSourceWith (put_behind w ins.line) image entries longer = ins.source in
+lengthened image said w longer is code ins =
+    let s : IsSourceWith (put_behind w ins.line) image said longer = ins.source in
     let runs : List Placed = parts image in
     let pieces : ArePieces runs = pieces_of 0 runs is.apart is.bytes in
     let first : List (List ℕ) = s.start ++ map far_line s.far in
-    let f : Front image entries s.far first = front image entries s.far s.start is.start s.starts s.are_far in
+    let f : Front image said s.far first = front image said s.far s.start is.start s.starts s.are_far in
     let later : ℕ = 1 + length first in
-    let p : LongerParts image entries w ins.line later 0 runs s.lines =
-    longer_parts image entries w ins.line later 0 0 runs s.lines code
-    (in_part runs w (code_some image entries w code)) (omega arith) is.apart pieces is.few
+    let p : LongerParts image said w ins.line later 0 runs s.lines =
+    longer_parts image said w ins.line later 0 0 runs s.lines code
+    (in_part runs w (code_some image said w code)) (omega arith) is.apart pieces is.few
     (each_part image is [] runs refl)
     s.are_lines in
-    let l : Longer image entries w ins.line later 0 p.to s.lines (InParts runs) = p.longer in
+    let l : Longer image said w ins.line later 0 p.to s.lines (InParts runs) = p.longer in
     let number : ℕ = l.n + 1 + length l.own in
     let four : IsFour ins.statement.body =
     four_body ins.statement.body ins.four
-    (λ n e. no_alignment n (stated_to n ins.said e) (sym (ap (length_at 0) e) ∙ ins.four 0)) in
-    let m : Parted image entries w = record {
+    (λ n e. no_alignment n (stated_to n ins.states e) (sym (ap (length_at 0) e) ∙ ins.four 0)) in
+    let m : Parted image said w = record {
       line = ins.line;
       later = later;
       to = p.to;
@@ -137,16 +138,16 @@ lengthened image entries w longer is code ins =
           )
           (read_one number ins.line (l.more ++ l.last) ins.tokens (in_line number ins.statement)
           (l.b.listed.statements ++ l.back.statements) ins.is_line ins.are_tokens
-          (said_in ins.number number ins.tokens ins.statement ins.said)
+          (said_in ins.number number ins.tokens ins.statement ins.states)
           (read_stated (number + 1) (number + 1 + length l.more) l.more l.last l.b.listed.statements l.back.statements
           refl
           l.b.listed.stated (read_all (number + 1 + length l.more) l.last l.back.statements l.back.stated)))))));
     }
 
 pub keeps_branches : EachKeepsItsBranches
-keeps_branches image entries is w longer unit code ins is_unit accepted =
-    let k : IsLengthened image entries w longer = lengthened image entries w longer is code ins in
+keeps_branches image said is w longer unit code ins is_unit accepted =
+    let k : IsLengthened image said w longer = lengthened image said w longer is code ins in
     let same : unit_of (k.m.f.statements ++ parted k.m) ≡ unit =
     (one_source_verdict longer).one_value (unit_of (k.m.f.statements ++ parted k.m)) unit k.is_unit is_unit in
-    subst (MovesCodeAlone image entries w) same
-    (moves_alone image entries w k.m is code (subst IsAcceptedUnit (sym same) accepted))
+    subst (MovesCodeAlone image said w) same
+    (moves_alone image said w k.m is code (subst IsAcceptedUnit (sym same) accepted))

@@ -8,16 +8,17 @@ use Rattle.m88_base.specs.Image.{ProgramImage, byte_at}
 use Rattle.m88_base.proofs.Laws.{value_of_hex8}
 use Rattle.m88_disasm.proofs.Laws.{AreLow, AreOnce, HasName, IsNew, MeanOne, Names}
 use Rattle.m88_sourcing.specs.Labels.{HasLabel, IsTarget, label_of}
+use Rattle.m88_sourcing.specs.Said.{Said}
 
 -- an address has a name: a label, or a value where no byte is
-abbrev pub IsNameable : ProgramImage → List ℕ → ℕ → Type 0
-IsNameable image entries a = HasLabel image entries a ⊎ (IsTarget image entries a × (byte_at image a ≡ None))
+abbrev pub IsNameable : ProgramImage → Said → ℕ → Type 0
+IsNameable image said a = HasLabel image said a ⊎ (IsTarget image said a × (byte_at image a ≡ None))
 
 -- what the names of a source stand for
-abbrev pub named : ProgramImage → List ℕ → Names
-named image entries name a =
+abbrev pub named : ProgramImage → Said → Names
+named image said name a =
     (a < 2 ^ 32)
-    × (((name ≡ codes "_start") × (a ≡ image.start)) ⊎ ((name ≡ label_of a) × IsNameable image entries a))
+    × (((name ≡ codes "_start") × (a ≡ image.start)) ⊎ ((name ≡ label_of a) × IsNameable image said a))
 
 -- names tell their addresses
 pub one_name : (a b : ℕ) → a < 2 ^ 32 → b < 2 ^ 32 → label_of a ≡ label_of b → a ≡ b
@@ -29,14 +30,14 @@ no_start a e =
     let f : get_or (label_of a) 0 0 ≡ get_or (codes "_start") 0 0 = ap (λ (xs : List ℕ). get_or xs 0 0) e in
     absurd (omega (arith, f))
 
-pub are_low : (image : ProgramImage) (entries : List ℕ) → AreLow (named image entries)
-are_low image entries name a h = h.0
+pub are_low : (image : ProgramImage) (said : Said) → AreLow (named image said)
+are_low image said name a h = h.0
 
-pub mean_one : (image : ProgramImage) (entries : List ℕ) → MeanOne (named image entries)
-mean_one image entries name a b h k = by h.1 k.1
+pub mean_one : (image : ProgramImage) (said : Said) → MeanOne (named image said)
+mean_one image said name a b h k = by h.1 k.1
   where
-    by : (((name ≡ codes "_start") × (a ≡ image.start)) ⊎ ((name ≡ label_of a) × IsNameable image entries a))
-        → (((name ≡ codes "_start") × (b ≡ image.start)) ⊎ ((name ≡ label_of b) × IsNameable image entries b)) → a ≡ b
+    by : (((name ≡ codes "_start") × (a ≡ image.start)) ⊎ ((name ≡ label_of a) × IsNameable image said a))
+        → (((name ≡ codes "_start") × (b ≡ image.start)) ⊎ ((name ≡ label_of b) × IsNameable image said b)) → a ≡ b
     by (inl x) (inl y) = x.1 ∙ sym y.1
     by (inl x) (inr y) = absurd (no_start b (sym y.0 ∙ x.0))
     by (inr x) (inl y) = absurd (no_start a (sym x.0 ∙ y.0))

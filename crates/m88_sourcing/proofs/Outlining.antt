@@ -17,6 +17,7 @@ use Rattle.m88_sourcing.specs.Code.IsCode.{in_slot, reached}
 use Rattle.m88_sourcing.specs.Code.IsReached.{leads}
 use Rattle.m88_sourcing.specs.Inside.Walks.{HasSlot, IsWalkSound, MayLeadTo}
 use Rattle.m88_sourcing.specs.Labels.{IsTarget}
+use Rattle.m88_sourcing.specs.Said.{Said}
 use Rattle.m88_sourcing.specs.Source.{AreFar}
 use Rattle.m88_sourcing.specs.declared.reaching.Walk.{Walk}
 use Rattle.m88_sourcing.specs.declared.words.Words.{Words}
@@ -46,14 +47,14 @@ slot_more slots index a Old Had Has Stands low before last =
     )
 
 -- what a walk has found, with the slots, is the code
-pub all_code : (image : ProgramImage) (entries seeds : List ℕ) (w : Walk) (new : Words) → seeds ≡ seeds_of image entries
+pub all_code : (image : ProgramImage) (said : Said) (seeds : List ℕ) (w : Walk) (new : Words) → seeds ≡ seeds_of image said
     → IsWalkSound image seeds w → ((a : ℕ) → IsReached image seeds a → IsTrue (contains w.outline.code a))
     → ((a b : ℕ) → IsTrue (contains w.outline.code a) → HasSlot image a b
     → Contains w.slots.items b ⊎ MayLeadTo image a b)
     → ((a : ℕ) → IsTrue (contains new a)
     ↔ (IsTrue (contains w.outline.code a) ⊎ (Contains w.slots.items a × HasInstruction image a)))
-    → (a : ℕ) → IsTrue (contains new a) ↔ IsCode image entries a
-all_code image entries seeds w new seeds_are sound all slots more a = (
+    → (a : ℕ) → IsTrue (contains new a) ↔ IsCode image said a
+all_code image said seeds w new seeds_are sound all slots more a = (
   λ has. elim ((more a).0 has) [
     | inl there ↦ reached (from_seeds a (sound.code a there))
     | inr is ↦
@@ -63,10 +64,10 @@ all_code image entries seeds w new seeds_are sound all slots more a = (
   λ code. (more a).1 (by code),
 )
   where
-    from_seeds : (b : ℕ) → IsReached image seeds b → IsReached image (seeds_of image entries) b
+    from_seeds : (b : ℕ) → IsReached image seeds b → IsReached image (seeds_of image said) b
     from_seeds b r = subst (λ (xs : List ℕ). IsReached image xs b) seeds_are r
 
-    by : IsCode image entries a → IsTrue (contains w.outline.code a)
+    by : IsCode image said a → IsTrue (contains w.outline.code a)
         ⊎ (Contains w.slots.items a × HasInstruction image a)
     by (reached r) = inl (all a (subst (λ (xs : List ℕ). IsReached image xs a) (sym seeds_are) r))
     by (in_slot b r is) =
@@ -76,61 +77,79 @@ all_code image entries seeds w new seeds_are sound all slots more a = (
           | inr led ↦ inl (all a (leads from (led.0, led.1, led.2, led.3, is.3)))
         ]
 
--- where no entry was noted
-pub no_entry : (t : ℕ) (Has Named Target Code Other : Type 0) → Has ↔ (Named × Other) → Named ↔ Target
-    → Has ↔ (Other × (Target ⊎ (Contains [] t × Code)))
-no_entry t Has Named Target Code Other is named = (
-  λ has. let p = is.0 has in (p.1, inl (named.0 p.0)),
-  λ p. elim p.1 [
-    | inl branch_target ↦ is.1 (named.1 branch_target, p.0)
-    | inr none ↦ absurd (let low = none.0.1 in omega (arith, low))
-  ],
-)
-
 pub with_target : (Has Named Target Other : Type 0) → Has ↔ (Named × Other) → Named ↔ Target → Has ↔ (Target × Other)
 with_target Has Named Target Other is named =
     (λ has. let p = is.0 has in (named.0 p.0, p.1), λ p. is.1 (named.1 p.0, p.1))
 
+-- one address more among words
+pub word_more : (addresses : List ℕ) (index a : ℕ) (Had Has : Type 0) → index < length addresses
+    → Had ↔ Contains (map word_address (take index addresses)) a
+    → Has ↔ (Had ⊎ (a ≡ word_address (get_or addresses index 0)))
+    → Has ↔ Contains (map word_address (take (index + 1) addresses)) a
+word_more addresses index a Had Has low before last =
+    let xs : List ℕ = map word_address (take index addresses) in
+    let y : ℕ = word_address (get_or addresses index 0) in
+    let e : xs ++ y ∷ [] ≡ map word_address (take (index + 1) addresses) =
+    sym (ap (map word_address) (take_more addresses index 0 low)
+    ∙ map-append word_address (take index addresses) (get_or addresses index 0 ∷ [])) in
+    subst (λ (ys : List ℕ). Has ↔ Contains ys a) e (
+      λ has. elim (last.0 has) [
+        | inl had ↦ Contains-append_left xs (y ∷ []) a (before.0 had)
+        | inr now ↦ subst (λ (b : ℕ). Contains (xs ++ y ∷ []) b) (sym now) (Contains-push xs y)
+      ],
+      λ member. elim (Contains-push_cases xs y a member) [
+        | inl old ↦ last.1 (inl (before.1 old))
+        | inr same ↦ last.1 (inr (sym same))
+      ],
+    )
+
 -- one entry more
-pub entry_more : (entries : List ℕ) (index t : ℕ) (Had Has Target Found Code Other : Type 0) → index < length entries
-    → Found ↔ Code → (Code → Other)
-    → Had ↔ (Other × (Target ⊎ (Contains (map word_address (take index entries)) t × Code)))
-    → Has ↔ (Had ⊎ ((t ≡ word_address (get_or entries index 0)) × Found))
-    → Has ↔ (Other × (Target ⊎ (Contains (map word_address (take (index + 1) entries)) t × Code)))
-entry_more entries index t Had Has Target Found Code Other low coded some before last =
+pub entry_more : (entries : List ℕ) (index a : ℕ) (Old Had Has Code : Type 0) → index < length entries
+    → Had ↔ (Old ⊎ (Contains (map word_address (take index entries)) a × Code))
+    → Has ↔ (Had ⊎ ((a ≡ word_address (get_or entries index 0)) × Code))
+    → Has ↔ (Old ⊎ (Contains (map word_address (take (index + 1) entries)) a × Code))
+entry_more entries index a Old Had Has Code low before last =
     let xs : List ℕ = map word_address (take index entries) in
     let y : ℕ = word_address (get_or entries index 0) in
     let e : xs ++ y ∷ [] ≡ map word_address (take (index + 1) entries) =
     sym (ap (map word_address) (take_more entries index 0 low)
     ∙ map-append word_address (take index entries) (get_or entries index 0 ∷ [])) in
-    subst (λ (ys : List ℕ). Has ↔ (Other × (Target ⊎ (Contains ys t × Code)))) e (
+    subst (λ (ys : List ℕ). Has ↔ (Old ⊎ (Contains ys a × Code))) e (
       λ has. elim (last.0 has) [
-        | inl had ↦
-            let p = before.0 had in (
-              p.0,
-              elim p.1 [
-                | inl branch_target ↦ inl branch_target
-                | inr old ↦ inr (Contains-append_left xs (y ∷ []) t old.0, old.1)
-              ],
-            )
-        | inr new ↦
-            let code : Code = coded.0 new.1 in
-            (some code, inr (subst (λ (b : ℕ). Contains (xs ++ y ∷ []) b) (sym new.0) (Contains-push xs y), code))
+        | inl had ↦ elim (before.0 had) [
+          | inl old ↦ inl old
+          | inr there ↦ inr (Contains-append_left xs (y ∷ []) a there.0, there.1)
+        ]
+        | inr now ↦ inr (subst (λ (b : ℕ). Contains (xs ++ y ∷ []) b) (sym now.0) (Contains-push xs y), now.1)
       ],
-      λ p. elim p.1 [
-        | inl branch_target ↦ last.1 (inl (before.1 (p.0, inl branch_target)))
-        | inr member ↦ elim (Contains-push_cases xs y t member.0) [
-          | inl old ↦ last.1 (inl (before.1 (p.0, inr (old, member.1))))
-          | inr same ↦ last.1 (inr (sym same, coded.1 member.1))
+      λ h. elim h [
+        | inl old ↦ last.1 (inl (before.1 (inl old)))
+        | inr there ↦ elim (Contains-push_cases xs y a there.0) [
+          | inl old ↦ last.1 (inl (before.1 (inr (old, there.1))))
+          | inr same ↦ last.1 (inr (sym same, there.1))
         ]
       ],
     )
 
+-- labels are the targets of code, and the entries that are code
+pub with_entries : (Has Had Named Target Member Found Code Other : Type 0) → Had ↔ (Named × Other) → Named ↔ Target
+    → Found ↔ Code → (Code → Other) → Has ↔ (Had ⊎ (Member × Found)) → Has ↔ (Other × (Target ⊎ (Member × Code)))
+with_entries Has Had Named Target Member Found Code Other is named coded some more = (
+  λ has. elim (more.0 has) [
+    | inl had ↦ let p = is.0 had in (p.1, inl (named.0 p.0))
+    | inr entry ↦ let code = coded.0 entry.1 in (some code, inr (entry.0, code))
+  ],
+  λ p. elim p.1 [
+    | inl target ↦ more.1 (inl (is.1 (named.1 target, p.0)))
+    | inr entry ↦ more.1 (inr (entry.0, coded.1 entry.1))
+  ],
+)
+
 -- targets in ascending order, each once
-pub sorted_targets : (image : ProgramImage) (entries old sorted new : List ℕ) → IsPermutation old sorted
+pub sorted_targets : (image : ProgramImage) (said : Said) (old sorted new : List ℕ) → IsPermutation old sorted
     → IsSorted nat_cmp sorted → new ≡ dedup eqb sorted
-    → ((t : ℕ) → Contains old t ↔ (IsTarget image entries t × (byte_at image t ≡ None))) → AreFar image entries new
-sorted_targets image entries old sorted new moved rising new_is exactly = record {
+    → ((t : ℕ) → Contains old t ↔ (IsTarget image said t × (byte_at image t ≡ None))) → AreFar image said new
+sorted_targets image said old sorted new moved rising new_is exactly = record {
   ascending =
       subst (λ (xs : List ℕ). IsStrictlySortedBy nat_cmp xs) (sym new_is)
       (IsStrictlySortedBy-dedup nat_cmp_total (λ x y. sym (unsigned_tied x y)) sorted rising);

@@ -15,9 +15,11 @@ use Rattle.m88_asm.specs.Objects.{labels_at, sets_at}
 use Rattle.m88_asm.specs.Units.{extents_in}
 use Rattle.m88_disasm.specs.Read.{unlabelled}
 use Rattle.m88_disasm.proofs.Laws.{AreInOrder, AreOnce, ArePieces, Data, HasName, IsWritten, Names, PartsData, Sets, a_set, data_behind, more_data, more_parts, names_in, names_of, no_set, stood, unit_of}
-use Rattle.m88_sourcing.specs.Insertion.{IsAgainAt}
+use Rattle.m88_sourcing.specs.Code.{InCode}
+use Rattle.m88_sourcing.specs.Insertion.{IsAgainAt, IsCarriedBy}
 use Rattle.m88_sourcing.specs.Insertion.IsAgainAt.{carried, stays}
 use Rattle.m88_sourcing.specs.Labels.{label_of}
+use Rattle.m88_sourcing.specs.Said.{Said, Stays}
 use Rattle.m88_sourcing.specs.Source.{AreFar}
 use Rattle.m88_sourcing.proofs.Accepted.{AreRoomed, EndLow, all_in_front, are_roomed, next_begins, small_enough}
 use Rattle.m88_sourcing.proofs.Bared.{MovesNames, bare_data, bare_parts, bared_pieces, bared_run, gives_none, name_in_either, one_piece, parts_stand, sets_stand, zeros, zeros_behind, zeros_length}
@@ -30,16 +32,16 @@ use Rattle.m88_sourcing.proofs.Skeleton.{AreTame, IsTame, all_tame, bare, bared,
 use Rattle.m88_sourcing.proofs.Told.{Among, AreThose, those_as, those_both}
 
 -- a source with a statement more
-pub record Parted (image : ProgramImage) (entries : List ℕ) (w : ℕ) : Type 0 where
+pub record Parted (image : ProgramImage) (said : Said) (w : ℕ) : Type 0 where
   pub line : List ℕ
   pub later : ℕ
   pub to : ℕ
   pub lines : List (List ℕ)
-  pub l : Longer image entries w line later 0 to lines (InParts (parts image))
+  pub l : Longer image said w line later 0 to lines (InParts (parts image))
   pub far : List ℕ
   pub far_lines : List (List ℕ)
-  pub are_far : AreFar image entries far
-  pub f : Front image entries far far_lines
+  pub are_far : AreFar image said far
+  pub f : Front image said far far_lines
   pub x : Statement
   pub none : x.label ≡ None
   pub tame : IsTame x.body
@@ -48,21 +50,21 @@ pub record Parted (image : ProgramImage) (entries : List ℕ) (w : ℕ) : Type 0
   pub four : length_at 0 x.body ≡ 4
 
 -- its statements behind those that name values
-abbrev pub parted : {image : ProgramImage} {entries : List ℕ} {w : ℕ} → Parted image entries w → List Statement
+abbrev pub parted : {image : ProgramImage} {said : Said} {w : ℕ} → Parted image said w → List Statement
 parted m =
     m.l.front.statements
     ++ unlabelled m.l.n (body.At m.l.s)
     ∷ (m.l.a.listed.statements ++ m.x ∷ (m.l.b.listed.statements ++ m.l.back.statements))
 
-pub parted_tame : (image : ProgramImage) (entries : List ℕ) (w : ℕ) (m : Parted image entries w) → AreTame (parted m)
-parted_tame image entries w m =
-    tame_behind m.l.front.statements _ (all_tame image entries 0 m.l.front.statements m.l.front.simple) (
+pub parted_tame : (image : ProgramImage) (said : Said) (w : ℕ) (m : Parted image said w) → AreTame (parted m)
+parted_tame image said w m =
+    tame_behind m.l.front.statements _ (all_tame image said 0 m.l.front.statements m.l.front.simple) (
       tt,
-      tame_behind m.l.a.listed.statements _ (all_tame image entries m.l.s m.l.a.listed.statements m.l.a.simple) (
+      tame_behind m.l.a.listed.statements _ (all_tame image said m.l.s m.l.a.listed.statements m.l.a.simple) (
         m.tame,
         tame_behind m.l.b.listed.statements m.l.back.statements
-            (all_tame image entries (w + 4) m.l.b.listed.statements m.l.b.simple)
-            (all_tame image entries m.l.e m.l.back.statements m.l.back.simple),
+            (all_tame image said (w + 4) m.l.b.listed.statements m.l.b.simple)
+            (all_tame image said m.l.e m.l.back.statements m.l.back.simple),
       ),
     )
 
@@ -74,11 +76,11 @@ no_names x none unset =
     none
     ∙ ap (map (λ (s : Symbol). s.name)) unset
 
-pub parted_names : (image : ProgramImage) (entries : List ℕ) (w : ℕ) (m : Parted image entries w)
+pub parted_names : (image : ProgramImage) (said : Said) (w : ℕ) (m : Parted image said w)
     → names_in (parted m)
     ≡ names_in m.l.front.statements ++ (names_in m.l.a.listed.statements
     ++ (names_in m.l.b.listed.statements ++ names_in m.l.back.statements))
-parted_names image entries w m =
+parted_names image said w m =
     let a : List Statement = m.l.a.listed.statements in
     let b : List Statement = m.l.b.listed.statements in
     let back : List Statement = m.l.back.statements in
@@ -89,15 +91,15 @@ parted_names image entries w m =
     (ap (λ (ns : List (List ℕ)). ns ++ names_in (b ++ back)) (no_names m.x m.none m.unset)
     ∙ flat_map-append names_of b back))
 
-parted_those : (image : ProgramImage) (entries : List ℕ) (w : ℕ) (m : Parted image entries w)
-    → AreThose image entries (names_in (parted m)) (InParts (parts image)) (InParts (parts image) image.start)
+parted_those : (image : ProgramImage) (said : Said) (w : ℕ) (m : Parted image said w)
+    → AreThose image said (names_in (parted m)) (InParts (parts image)) (InParts (parts image) image.start)
 unfolding byte_at
-parted_those image entries w m =
-    subst (λ (ns : List (List ℕ)). AreThose image entries ns K (K image.start)) (sym (parted_names image entries w m))
-    (those_as image entries _ Parts K (Parts image.start) (K image.start) onto off (onto image.start) (off image.start)
-    (those_both image entries _ _ (Below K s) _ _ _ first_apart (first_apart image.start) m.l.front.those
-    (those_both image entries _ _ (Among s na) _ _ _ second_apart (second_apart image.start) m.l.a.those
-    (those_both image entries _ _ (Among (w + 4) nb) (From K e) _ _ third_apart (third_apart image.start) m.l.b.those
+parted_those image said w m =
+    subst (λ (ns : List (List ℕ)). AreThose image said ns K (K image.start)) (sym (parted_names image said w m))
+    (those_as image said _ Parts K (Parts image.start) (K image.start) onto off (onto image.start) (off image.start)
+    (those_both image said _ _ (Below K s) _ _ _ first_apart (first_apart image.start) m.l.front.those
+    (those_both image said _ _ (Among s na) _ _ _ second_apart (second_apart image.start) m.l.a.those
+    (those_both image said _ _ (Among (w + 4) nb) (From K e) _ _ third_apart (third_apart image.start) m.l.b.those
     m.l.back.those))))
   where
     K : ℕ → Type 0
@@ -155,25 +157,25 @@ parted_those image entries w m =
       ]
     ]
 
-pub parted_defined : (image : ProgramImage) (entries : List ℕ) (w : ℕ) (m : Parted image entries w)
-    → AreDefined image entries (names_in m.f.statements) (names_in (parted m))
-parted_defined image entries w m =
-    are_defined image entries m.far m.far_lines m.are_far m.f (names_in (parted m)) (parted_those image entries w m)
+pub parted_defined : (image : ProgramImage) (said : Said) (w : ℕ) (m : Parted image said w)
+    → AreDefined image said (names_in m.f.statements) (names_in (parted m))
+parted_defined image said w m =
+    are_defined image said m.far m.far_lines m.are_far m.f (names_in (parted m)) (parted_those image said w m)
 
 -- its skeleton gives zeros, four more in the piece of w
-abbrev pub middle : {image : ProgramImage} {entries : List ℕ} {w : ℕ} → Parted image entries w → Placed
+abbrev pub middle : {image : ProgramImage} {said : Said} {w : ℕ} → Parted image said w → Placed
 middle m = record { at = m.l.s; bytes = zeros (length m.l.bytes_a + (4 + length m.l.bytes_b)) }
 
-abbrev pub parted_runs : {image : ProgramImage} {entries : List ℕ} {w : ℕ} → Parted image entries w → List Placed
+abbrev pub parted_runs : {image : ProgramImage} {said : Said} {w : ℕ} → Parted image said w → List Placed
 parted_runs m = map bared_run m.l.front.runs ++ middle m ∷ map bared_run m.l.back.runs
 
-pub parted_datas : (image : ProgramImage) (entries : List ℕ) (w : ℕ) (m : Parted image entries w) (New : Names)
-    → MovesNames (named image entries) New 0 m.l.front.statements
-    → MovesNames (named image entries) New 0 m.l.a.listed.statements
-    → MovesNames (named image entries) New 4 m.l.b.listed.statements
-    → MovesNames (named image entries) New 0 m.l.back.statements
+pub parted_datas : (image : ProgramImage) (said : Said) (w : ℕ) (m : Parted image said w) (New : Names)
+    → MovesNames (named image said) New 0 m.l.front.statements
+    → MovesNames (named image said) New 0 m.l.a.listed.statements
+    → MovesNames (named image said) New 4 m.l.b.listed.statements
+    → MovesNames (named image said) New 0 m.l.back.statements
     → PartsData New (parted_runs m) (skeleton (parted m))
-parted_datas image entries w m New move_front move_a move_b move_back =
+parted_datas image said w m New move_front move_a move_b move_back =
     let a : List Statement = m.l.a.listed.statements in
     let b : List Statement = m.l.b.listed.statements in
     let back : List Statement = m.l.back.statements in
@@ -185,10 +187,10 @@ parted_datas image entries w m New move_front move_a move_b move_back =
     let next : w + 4 + 4 ≡ w + 4 + length (zeros 4) = omega arith in
     let first : Data New m.l.s (zeros na) (skeleton a) =
     subst (λ (k : ℕ). Data New k (zeros na) (skeleton a)) here
-    (bare_data (named image entries) New 0 m.l.s m.l.bytes_a a m.l.a.listed.datas move_a) in
+    (bare_data (named image said) New 0 m.l.s m.l.bytes_a a m.l.a.listed.datas move_a) in
     let last : Data New (w + 4 + length (zeros 4)) (zeros nb) (skeleton b) =
     subst (λ (k : ℕ). Data New k (zeros nb) (skeleton b)) next
-    (bare_data (named image entries) New 4 (w + 4) m.l.bytes_b b m.l.b.listed.datas move_b) in
+    (bare_data (named image said) New 4 (w + 4) m.l.bytes_b b m.l.b.listed.datas move_b) in
     let own : Data New m.l.s (zeros na ++ (zeros 4 ++ zeros nb)) (skeleton a ++ bared m.x ∷ skeleton b) =
     data_behind New m.l.s (w + 4) (zeros na) (zeros 4 ++ zeros nb) (skeleton a) (bared m.x ∷ skeleton b)
     (omega (arith, a_ends, size_a)) first
@@ -208,13 +210,13 @@ parted_datas image entries w m New move_front move_a move_b move_back =
     (sym (skeleton_behind m.l.front.statements (unlabelled m.l.n (body.At m.l.s) ∷ (a ++ m.x ∷ (b ++ back)))))
     (parts_behind New (map bared_run m.l.front.runs) (middle m ∷ map bared_run m.l.back.runs)
     (skeleton m.l.front.statements) _
-    (bare_parts (named image entries) New m.l.front.runs m.l.front.statements m.l.front.datas move_front)
+    (bare_parts (named image said) New m.l.front.runs m.l.front.statements m.l.front.datas move_front)
     (more_parts m.l.n (skeleton a ++ bared m.x ∷ skeleton b) (skeleton back) all
     (subst (λ (bs : List ℕ). Data New m.l.s bs (skeleton a ++ bared m.x ∷ skeleton b)) sum own)
-    (bare_parts (named image entries) New m.l.back.runs back m.l.back.datas move_back)))
+    (bare_parts (named image said) New m.l.back.runs back m.l.back.datas move_back)))
 
 -- where it is accepted its parts have their room
-pub record HasRoom (image : ProgramImage) (entries : List ℕ) (w : ℕ) (m : Parted image entries w) : Type 0 where
+pub record HasRoom (image : ProgramImage) (said : Said) (w : ℕ) (m : Parted image said w) : Type 0 where
   pub few : count_among (parted_runs m) ≤ most_bytes
   pub low : m.l.e + 4 ≤ 2 ^ 32
   pub order : AreInOrder 0 (parted_runs m)
@@ -242,9 +244,9 @@ order_back low end to (run ∷ runs) follow first = (
       (subst (λ (k : ℕ). Follow (run.at + k) runs to) (sym (zeros_length (length run.bytes))) follow.1) tt),
 )
 
-pub has_room : (image : ProgramImage) (entries : List ℕ) (w : ℕ) (m : Parted image entries w)
-    → IsAcceptedUnit (unit_of (m.f.statements ++ parted m)) → HasRoom image entries w m
-has_room image entries w m accepted = record {
+pub has_room : (image : ProgramImage) (said : Said) (w : ℕ) (m : Parted image said w)
+    → IsAcceptedUnit (unit_of (m.f.statements ++ parted m)) → HasRoom image said w m
+has_room image said w m accepted = record {
   few = enough.0;
   low = let x = middle_low in omega (arith, x, size, a_ends, b_ends);
   order = order_on 0 s m.l.front.runs (middle m ∷ map bared_run m.l.back.runs) m.l.front.order
@@ -268,10 +270,10 @@ has_room image entries w m accepted = record {
 
     datas : PartsData Any (parted_runs m) (skeleton (parted m))
     datas =
-        parted_datas image entries w m Any (λ name a has old. tt) (λ name a has old. tt) (λ name a has old. tt)
+        parted_datas image said w m Any (λ name a has old. tt) (λ name a has old. tt) (λ name a has old. tt)
         (λ name a has old. tt)
 
-    any_sets : (sets : List Statement) → Sets (named image entries) sets → Sets Any sets
+    any_sets : (sets : List Statement) → Sets (named image said) sets → Sets Any sets
     any_sets _ no_set = no_set
     any_sets _ (a_set {xs = xs} n name col value is others) = a_set n name col value tt (any_sets xs others)
 
@@ -279,15 +281,15 @@ has_room image entries w m accepted = record {
     same =
         skeleton_behind m.f.statements (parted m)
         ∙ ap (λ (zs : List Statement). zs ++ skeleton (parted m))
-        (sets_skeleton (named image entries) m.f.statements m.f.are_sets)
+        (sets_skeleton (named image said) m.f.statements m.f.are_sets)
 
     extents : extents_in (stood (m.f.statements ++ skeleton (parted m)))
         ≡ extents_in (stood (m.f.statements ++ parted m))
     extents =
         ap (λ (zs : List Statement). extents_in (stood zs)) (sym same)
         ∙ extents_same (m.f.statements ++ parted m)
-        (tame_behind m.f.statements (parted m) (sets_tame (named image entries) m.f.statements m.f.are_sets)
-        (parted_tame image entries w m))
+        (tame_behind m.f.statements (parted m) (sets_tame (named image said) m.f.statements m.f.are_sets)
+        (parted_tame image said w m))
 
     roomed : AreRoomed (parted_runs m) (extents_in (stood (m.f.statements ++ parted m)) ++ [])
     roomed =
@@ -313,39 +315,52 @@ has_room image entries w m accepted = record {
         accepted.linkable.disjoint (omega (arith, from, a_ends, b_ends)) (omega (arith, some, size_run))
 
 -- where an address of the piece is found again, and one beside it
-pub found_behind : (image : ProgramImage) (entries : List ℕ) (w : ℕ) (m : Parted image entries w) (a : ℕ)
-    → Among (w + 4) (length m.l.bytes_b) a → IsAgainAt image entries w a (a + 4)
-found_behind image entries w m a h =
+pub found_behind : (image : ProgramImage) (said : Said) (w : ℕ) (m : Parted image said w) (a : ℕ)
+    → Among (w + 4) (length m.l.bytes_b) a → IsAgainAt image said w a (a + 4)
+found_behind image said w m a h =
     let from = h.0 in
     let below = h.1 in
     let holds = m.l.holds in
     let b_ends = m.l.b_ends in
-    carried (from, λ b up down. m.l.all_code b (omega (arith, holds, up)) (omega (arith, down, below, b_ends)))
+    carried (
+      from,
+      λ b up down. m.l.all_code b (omega (arith, holds, up)) (omega (arith, down, below, b_ends)),
+      λ b up down. m.l.none_stays b (omega (arith, holds, up)) (omega (arith, down, below, b_ends)),
+    )
 
-pub found_before : (image : ProgramImage) (entries : List ℕ) (w : ℕ) (m : Parted image entries w) (a : ℕ) → a < w + 4
-    → IsAgainAt image entries w a (a + 0)
-found_before image entries w m a low =
+pub found_before : (image : ProgramImage) (said : Said) (w : ℕ) (m : Parted image said w) (a : ℕ) → a < w + 4
+    → IsAgainAt image said w a (a + 0)
+found_before image said w m a low =
     let same : a ≡ a + 0 = omega arith in
-    subst (IsAgainAt image entries w a) same (stays (λ c. let x = c.0 in absurd (omega (arith, x, low))))
+    subst (IsAgainAt image said w a) same (stays (λ c. let x = c.0 in absurd (omega (arith, x, low))))
 
-pub found_past : (image : ProgramImage) (entries : List ℕ) (w : ℕ) (m : Parted image entries w) (a : ℕ) → m.l.e ≤ a
-    → IsAgainAt image entries w a (a + 0)
-found_past image entries w m a high =
+pub not_past : (image : ProgramImage) (said : Said) (w : ℕ) (m : Parted image said w) (a : ℕ) → m.l.e ≤ a
+    → IsCarriedBy image said w a → ⊥
+not_past image said w m a high c = by m.l.ends
+  where
+    behind : w < m.l.e
+    behind = let b_ends = m.l.b_ends in omega (arith, b_ends)
+
+    by : ¬ InCode image said m.l.e ⊎ Stays said m.l.e → ⊥
+    by (inl none) = none (c.1 m.l.e (let up = behind in omega (arith, up)) high)
+    by (inr place) = c.2 m.l.e behind high place
+
+pub found_past : (image : ProgramImage) (said : Said) (w : ℕ) (m : Parted image said w) (a : ℕ) → m.l.e ≤ a
+    → IsAgainAt image said w a (a + 0)
+found_past image said w m a high =
     let same : a ≡ a + 0 = omega arith in
-    let b_ends = m.l.b_ends in
-    subst (IsAgainAt image entries w a) same
-    (stays (λ c. m.l.ends (c.1 m.l.e (omega (arith, b_ends)) high)))
+    subst (IsAgainAt image said w a) same (stays (not_past image said w m a high))
 
 -- and what its names stand for then
-pub record IsPartedAs (image : ProgramImage) (entries : List ℕ) (w : ℕ) (m : Parted image entries w) : Type 0 where
+pub record IsPartedAs (image : ProgramImage) (said : Said) (w : ℕ) (m : Parted image said w) : Type 0 where
   pub start : ℕ
-  pub starts : newly image entries w (codes "_start") start
-  pub means : (name : List ℕ) (a : ℕ) → named image entries name a → (p : ℕ) × newly image entries w name p
-  pub written : IsWritten (newly image entries w) start (parted_runs m) m.f.statements (skeleton (parted m))
+  pub starts : newly image said w (codes "_start") start
+  pub means : (name : List ℕ) (a : ℕ) → named image said name a → (p : ℕ) × newly image said w name p
+  pub written : IsWritten (newly image said w) start (parted_runs m) m.f.statements (skeleton (parted m))
 
-pub parted_as : (image : ProgramImage) (entries : List ℕ) (w : ℕ) (m : Parted image entries w) → IsImage image
-    → HasRoom image entries w m → IsPartedAs image entries w m
-parted_as image entries w m is room =
+pub parted_as : (image : ProgramImage) (said : Said) (w : ℕ) (m : Parted image said w) → IsImage image
+    → HasRoom image said w m → IsPartedAs image said w m
+parted_as image said w m is room =
     let start : (a : ℕ) × New (codes "_start") a =
     value (codes "_start") (defined.defined (codes "_start") image.start (is.start, inl (refl, refl))) in
     record {
@@ -355,8 +370,8 @@ parted_as image entries w m is room =
       written = record {
         are_sets = sets;
         datas = datas;
-        low = low_newly image entries w;
-        one = one_newly image entries w;
+        low = low_newly image said w;
+        one = one_newly image said w;
         once = subst (AreOnce []) (sym names) defined.once;
         defined = λ name a h. subst (HasName name) (sym names) (old_name name a h.1);
         starts = start.1;
@@ -369,7 +384,7 @@ parted_as image entries w m is room =
     }
   where
     New : Names
-    New = newly image entries w
+    New = newly image said w
 
     holds : m.l.s ≤ w
     holds = m.l.holds
@@ -396,44 +411,44 @@ parted_as image entries w m is room =
 
     datas : PartsData New (parted_runs m) (skeleton (parted m))
     datas =
-        parted_datas image entries w m New
-        (moves_names image entries w 0 (λ a. (a < m.l.s) × IsSome (byte_at image a)) _ _ m.l.front.statements
-        (λ a k. let x = k.0 in found_before image entries w m a (omega (arith, x, holds))) (λ a k. low_there a k.1)
-        (λ a k. (k.0.1, k.1)) (λ k. ((k.0.1, code_some image entries image.start k.1), k.1)) m.l.front.those.only)
-        (moves_names image entries w 0 (λ a. Among m.l.s (length m.l.bytes_a) a × IsSome (byte_at image a)) _ _
+        parted_datas image said w m New
+        (moves_names image said w 0 (λ a. (a < m.l.s) × IsSome (byte_at image a)) _ _ m.l.front.statements
+        (λ a k. let x = k.0 in found_before image said w m a (omega (arith, x, holds))) (λ a k. low_there a k.1)
+        (λ a k. (k.0.1, k.1)) (λ k. ((k.0.1, code_some image said image.start k.1), k.1)) m.l.front.those.only)
+        (moves_names image said w 0 (λ a. Among m.l.s (length m.l.bytes_a) a × IsSome (byte_at image a)) _ _
         m.l.a.listed.statements
-        (λ a k. let x = k.0.1 in found_before image entries w m a (omega (arith, x, a_ends))) (λ a k. low_there a k.1)
-        (λ a k. k) (λ k. ((k.0, code_some image entries image.start k.1), k.1)) m.l.a.those.only)
-        (moves_names image entries w 4 (Among (w + 4) (length m.l.bytes_b)) _ _ m.l.b.listed.statements
-        (found_behind image entries w m) (λ a k. let x = k.1 in let y = room.low in omega (arith, x, y, b_ends))
+        (λ a k. let x = k.0.1 in found_before image said w m a (omega (arith, x, a_ends))) (λ a k. low_there a k.1)
+        (λ a k. k) (λ k. ((k.0, code_some image said image.start k.1), k.1)) m.l.a.those.only)
+        (moves_names image said w 4 (Among (w + 4) (length m.l.bytes_b)) _ _ m.l.b.listed.statements
+        (found_behind image said w m) (λ a k. let x = k.1 in let y = room.low in omega (arith, x, y, b_ends))
         (λ a k. k.0) (λ k. k) m.l.b.those.only)
-        (moves_names image entries w 0 (λ a. (m.l.e ≤ a) × IsSome (byte_at image a)) _ _ m.l.back.statements
-        (λ a k. found_past image entries w m a k.0) (λ a k. low_there a k.1)
-        (λ a k. (k.0.1, k.1)) (λ k. ((k.0.1, code_some image entries image.start k.1), k.1)) m.l.back.those.only)
+        (moves_names image said w 0 (λ a. (m.l.e ≤ a) × IsSome (byte_at image a)) _ _ m.l.back.statements
+        (λ a k. found_past image said w m a k.0) (λ a k. low_there a k.1)
+        (λ a k. (k.0.1, k.1)) (λ k. ((k.0.1, code_some image said image.start k.1), k.1)) m.l.back.those.only)
 
     sets : Sets New m.f.statements
-    sets = moved_sets image entries w m.f.statements m.f.only m.f.are_sets
+    sets = moved_sets image said w m.f.statements m.f.only m.f.are_sets
 
-    defined : AreDefined image entries (names_in m.f.statements) (names_in (parted m))
-    defined = parted_defined image entries w m
+    defined : AreDefined image said (names_in m.f.statements) (names_in (parted m))
+    defined = parted_defined image said w m
 
     names : names_in (m.f.statements ++ skeleton (parted m)) ≡ names_in m.f.statements ++ names_in (parted m)
     names =
         flat_map-append names_of m.f.statements (skeleton (parted m))
         ∙ ap (λ (ns : List (List ℕ)). names_in m.f.statements ++ ns)
-        (names_skeleton (parted m) (parted_tame image entries w m))
+        (names_skeleton (parted m) (parted_tame image said w m))
 
     value : (name : List ℕ) → HasName name (names_in m.f.statements ++ names_in (parted m)) → (a : ℕ) × New name a
     value name has = elim (name_in_either name (names_in m.f.statements) (names_in (parted m)) has) [
       | inl first ↦ sets_stand New name m.f.statements sets first
       | inr last ↦
           parts_stand New name (parted_runs m) (skeleton (parted m)) datas
-          (subst (HasName name) (sym (names_skeleton (parted m) (parted_tame image entries w m))) last)
+          (subst (HasName name) (sym (names_skeleton (parted m) (parted_tame image said w m))) last)
     ]
 
     old_name : (name : List ℕ) (p : ℕ)
-        → (((name ≡ codes "_start") × StartsAt image entries w p)
-        ⊎ ((q : ℕ) × (name ≡ label_of q) × (q < 2 ^ 32) × IsNameable image entries q × IsAgainAt image entries w q p))
+        → (((name ≡ codes "_start") × StartsAt image said w p)
+        ⊎ ((q : ℕ) × (name ≡ label_of q) × (q < 2 ^ 32) × IsNameable image said q × IsAgainAt image said w q p))
         → HasName name (names_in m.f.statements ++ names_in (parted m))
     old_name name p (inl x) = defined.defined name image.start (is.start, inl (x.0, refl))
     old_name name p (inr x) = defined.defined name x.0 (x.2, inr (x.1, x.3))

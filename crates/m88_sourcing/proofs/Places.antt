@@ -21,6 +21,7 @@ use Rattle.m88_disasm.proofs.Laws.{Data, Names, PartsData, more_data, more_parts
 use Rattle.m88_sourcing.specs.Code.{IsCode, HoldsInstruction}
 use Rattle.m88_sourcing.specs.Flow.{branch_target}
 use Rattle.m88_sourcing.specs.Labels.{label_of}
+use Rattle.m88_sourcing.specs.Said.{Said}
 use Rattle.m88_sourcing.specs.Targets.{counting}
 
 -- where the next byte goes behind a body at an address
@@ -71,23 +72,23 @@ branch_kind (instr.Branch link delayed words) = Pc26
 branch_kind i = Pc16
 
 -- a statement at an address is the branch that stands there
-pub record IsBranchAt (image : ProgramImage) (entries : List ℕ) (at : ℕ) (x : Statement) : Type 0 where
+pub record IsBranchAt (image : ProgramImage) (said : Said) (at : ℕ) (x : Statement) : Type 0 where
   pub i : Instr
   pub t : ℕ
-  pub code : IsCode image entries at
+  pub code : IsCode image said at
   pub stands : HoldsInstruction image at i
   pub leads : branch_target at i ≡ Some t
   pub waits : WaitsFor i t x
   pub kind : waits.name.kind ≡ branch_kind i
 
 -- the statements of a source are plain, or branches
-abbrev pub IsSimple : ProgramImage → List ℕ → ℕ → Statement → Type 0
-IsSimple image entries at x = IsPlain x.body ⊎ IsBranchAt image entries at x
+abbrev pub IsSimple : ProgramImage → Said → ℕ → Statement → Type 0
+IsSimple image said at x = IsPlain x.body ⊎ IsBranchAt image said at x
 
-pub all_plain : (image : ProgramImage) (entries : List ℕ) (at : ℕ) (xs : List Statement)
-    → AllByRecursion (λ x. IsPlain x.body) xs → AllAt (IsSimple image entries) at xs
-all_plain image entries at [] h = tt
-all_plain image entries at (x ∷ xs) h = (inl h.0, all_plain image entries (place_behind at x.body) xs h.1)
+pub all_plain : (image : ProgramImage) (said : Said) (at : ℕ) (xs : List Statement)
+    → AllByRecursion (λ x. IsPlain x.body) xs → AllAt (IsSimple image said) at xs
+all_plain image said at [] h = tt
+all_plain image said at (x ∷ xs) h = (inl h.0, all_plain image said (place_behind at x.body) xs h.1)
 
 pub has_in_front : (Is : ℕ → Statement → Type 0) (at : ℕ) (xs ys : List Statement) → HasAt Is at xs → HasAt Is at (xs ++ ys)
 has_in_front Is at [] ys h = absurd h
@@ -173,26 +174,26 @@ all_apart Is Named at next bytes _ ys is (more_data {x = x} {xs = xs} given left
     (subst (λ (a : ℕ). AllAt Is a (xs ++ ys)) place h.1) in
     ((h.0, subst (λ (a : ℕ). AllAt Is a xs) (sym place) parts.0), parts.1)
 
-pub all_anywhere : (image : ProgramImage) (entries : List ℕ) (Named : Names) (p q : ℕ) (runs : List Placed)
-    (xs : List Statement) → PartsData Named runs xs → AllAt (IsSimple image entries) p xs
-    → AllAt (IsSimple image entries) q xs
-all_anywhere image entries Named p q _ _ no_parts h = tt
-all_anywhere image entries Named p q _ xs (more_parts {run = run} n own more are datas others) h =
-    subst (AllAt (IsSimple image entries) q) (sym are) (inl tt, (subst (AllAt (IsSimple image entries) p) are h).1)
+pub all_anywhere : (image : ProgramImage) (said : Said) (Named : Names) (p q : ℕ) (runs : List Placed)
+    (xs : List Statement) → PartsData Named runs xs → AllAt (IsSimple image said) p xs
+    → AllAt (IsSimple image said) q xs
+all_anywhere image said Named p q _ _ no_parts h = tt
+all_anywhere image said Named p q _ xs (more_parts {run = run} n own more are datas others) h =
+    subst (AllAt (IsSimple image said) q) (sym are) (inl tt, (subst (AllAt (IsSimple image said) p) are h).1)
 
-pub all_behind_parts : (image : ProgramImage) (entries : List ℕ) (Named : Names) (p : ℕ) (runs : List Placed)
-    (xs ys : List Statement) → PartsData Named runs xs → AllAt (IsSimple image entries) p xs
-    → ((q : ℕ) → AllAt (IsSimple image entries) q ys) → AllAt (IsSimple image entries) p (xs ++ ys)
-all_behind_parts image entries Named p _ _ ys no_parts h rest = rest p
-all_behind_parts image entries Named p _ xs ys
+pub all_behind_parts : (image : ProgramImage) (said : Said) (Named : Names) (p : ℕ) (runs : List Placed)
+    (xs ys : List Statement) → PartsData Named runs xs → AllAt (IsSimple image said) p xs
+    → ((q : ℕ) → AllAt (IsSimple image said) q ys) → AllAt (IsSimple image said) p (xs ++ ys)
+all_behind_parts image said Named p _ _ ys no_parts h rest = rest p
+all_behind_parts image said Named p _ xs ys
     (more_parts {run = run} {runs = runs} n own more are datas others) h rest =
-    let Is : ℕ → Statement → Type 0 = IsSimple image entries in
+    let Is : ℕ → Statement → Type 0 = IsSimple image said in
     let end : ℕ = run.at + length run.bytes in
     let own_all : AllAt Is run.at (own ++ more) = (subst (AllAt Is p) are h).1 in
     let parts : AllAt Is run.at own × AllAt Is end more =
     all_apart Is Named run.at end run.bytes own more refl datas own_all in
     let tail : AllAt Is run.at (own ++ (more ++ ys)) =
     all_behind_data Is Named run.at end run.bytes own (more ++ ys) refl datas parts.0
-    (all_behind_parts image entries Named end runs more ys others parts.1 rest) in
+    (all_behind_parts image said Named end runs more ys others parts.1 rest) in
     subst (λ (zs : List Statement). AllAt Is p (zs ++ ys)) (sym are)
     (inl tt, subst (AllAt Is run.at) (sym (append_assoc own more ys)) tail)

@@ -26,6 +26,7 @@ use Rattle.m88_parse.specs.Language.Units.{IsUnit}
 use Rattle.m88_sourcing.specs.Flow.{branch_target}
 use Rattle.m88_sourcing.specs.Code.{InCode, IsCode, HoldsInstruction}
 use Rattle.m88_sourcing.specs.Labels.{IsTarget, label_of}
+use Rattle.m88_sourcing.specs.Said.{Said}
 use Rattle.m88_sourcing.specs.Source.{AreFar, AreSourceLines, IsSource, LineWhere, far_line}
 use Rattle.m88_sourcing.specs.Source.LineWhere.{so, not_so}
 use Rattle.m88_sourcing.specs.Source.AreSourceLines.{no_part, part}
@@ -55,45 +56,45 @@ not_both from a run runs apart h k =
 abbrev pub EachPart : ProgramImage → List Placed → Type 0
 EachPart image runs = AllByRecursion (λ run. IsPart (byte_at image) run.at run.bytes) runs
 
-pub record ToldParts (image : ProgramImage) (entries : List ℕ) (number from : ℕ) (runs : List Placed)
+pub record ToldParts (image : ProgramImage) (said : Said) (number from : ℕ) (runs : List Placed)
     (lines : List (List ℕ)) : Type 0 where
   pub to : ℕ
-  pub told : ToldRuns image entries number from to lines (InParts runs) (InParts runs) (InParts runs image.start)
+  pub told : ToldRuns image said number from to lines (InParts runs) (InParts runs) (InParts runs image.start)
   pub bytes_are : (a : ℕ) → byte_among told.runs a ≡ byte_among runs a
   pub count : count_among told.runs ≡ count_among runs
 
-pub instruction_first : (image : ProgramImage) (entries : List ℕ) (run : Placed)
-    → IsPart (byte_at image) run.at run.bytes → 0 < length run.bytes → InCode image entries run.at → run.at % 4 ≡ 0
-instruction_first image entries run is some c = part_whole image run.at run.bytes is (code_stands image entries _ c)
+pub instruction_first : (image : ProgramImage) (said : Said) (run : Placed)
+    → IsPart (byte_at image) run.at run.bytes → 0 < length run.bytes → InCode image said run.at → run.at % 4 ≡ 0
+instruction_first image said run is some c = part_whole image run.at run.bytes is (code_stands image said _ c)
 
-pub told_parts : (image : ProgramImage) (entries : List ℕ) (number from : ℕ) (runs : List Placed)
+pub told_parts : (image : ProgramImage) (said : Said) (number from : ℕ) (runs : List Placed)
     (lines : List (List ℕ))
     → AreApart from runs → ArePieces runs → count_among runs ≤ most_bytes → EachPart image runs
-    → AreSourceLines (λ _. []) image entries runs lines → ToldParts image entries number from runs lines
-told_parts image entries number from _ _ apart pieces few each no_part = record {
+    → AreSourceLines (λ _. []) image said runs lines → ToldParts image said number from runs lines
+told_parts image said number from _ _ apart pieces few each no_part = record {
   to = from;
-  told = runs_none image entries number from;
+  told = runs_none image said number from;
   bytes_are = λ a. refl;
   count = refl;
 }
-told_parts image entries number from _ _ apart pieces few each
+told_parts image said number from _ _ apart pieces few each
     (part {run = run} {runs = runs} {own = own} {lines = lines} are rest) =
     let sum = sum_by-cons (λ (r : Placed). length r.bytes) run runs in
     let end : ℕ = run.at + length run.bytes in
-    let p : ToldPart image entries number run.at end run.bytes own (Among run.at (length run.bytes))
+    let p : ToldPart image said number run.at end run.bytes own (Among run.at (length run.bytes))
     (Among run.at (length run.bytes) image.start) =
-    told_pieces image entries number run.at run.bytes own pieces.2 (omega (arith, sum, few)) pieces.0 each.0.there
-    (instruction_first image entries run each.0) are in
+    told_pieces image said number run.at run.bytes own pieces.2 (omega (arith, sum, few)) pieces.0 each.0.there
+    (instruction_first image said run each.0) are in
     let later : ℕ = number + length own in
-    let others : ToldParts image entries later (end + 1) runs lines =
-    told_parts image entries later (end + 1) runs lines apart.2 pieces.3 (omega (arith, sum, few)) each.1 rest in
+    let others : ToldParts image said later (end + 1) runs lines =
+    told_parts image said later (end + 1) runs lines apart.2 pieces.3 (omega (arith, sum, few)) each.1 rest in
     record {
       to = others.to;
-      told = runs_both image entries number later from end others.to own lines (Among run.at (length run.bytes))
+      told = runs_both image said number later from end others.to own lines (Among run.at (length run.bytes))
           (InParts runs) (Among run.at (length run.bytes)) (InParts runs) (Among run.at (length run.bytes) image.start) (InParts runs image.start) refl
           (λ a. not_both from a run runs apart) (not_both from image.start run runs apart)
-          (runs_from image entries number from run.at end own _ _ _ apart.0 p.told)
-          (runs_from image entries later end (end + 1) others.to lines _ _ _ (omega arith) others.told);
+          (runs_from image said number from run.at end own _ _ _ apart.0 p.told)
+          (runs_from image said later end (end + 1) others.to lines _ _ _ (omega arith) others.told);
       bytes_are = λ a.
           byte_among-append p.told.runs others.told.runs a
           ∙ ap (λ (o : Option ℕ). option_or o (byte_among others.told.runs a)) (p.bytes_are a)
@@ -122,25 +123,25 @@ far_statements : ℕ → List ℕ → List Statement
 far_statements number [] = []
 far_statements number (t ∷ ts) = unlabelled number (body.Set (label_of t) 6 t) ∷ far_statements (number + 1) ts
 
-abbrev IsFar : ProgramImage → List ℕ → ℕ → Type 0
-IsFar image entries t = IsTarget image entries t × (byte_at image t ≡ None)
+abbrev IsFar : ProgramImage → Said → ℕ → Type 0
+IsFar image said t = IsTarget image said t × (byte_at image t ≡ None)
 
-far_stated : (image : ProgramImage) (entries : List ℕ) (number : ℕ) (ts : List ℕ)
-    → AllByRecursion (IsFar image entries) ts → Stated number (map far_line ts) (far_statements number ts)
+far_stated : (image : ProgramImage) (said : Said) (number : ℕ) (ts : List ℕ)
+    → AllByRecursion (IsFar image said) ts → Stated number (map far_line ts) (far_statements number ts)
 unfolding far_statements
-far_stated image entries number [] all = tt
-far_stated image entries number (t ∷ ts) all = (
-  spoken number (far_line t) (body.Set (label_of t) 6 t) (said_far number t (target_low image entries t all.0.0)),
-  far_stated image entries (number + 1) ts all.1,
+far_stated image said number [] all = tt
+far_stated image said number (t ∷ ts) all = (
+  spoken number (far_line t) (body.Set (label_of t) 6 t) (said_far number t (target_low image said t all.0.0)),
+  far_stated image said (number + 1) ts all.1,
 )
 
-far_sets : (image : ProgramImage) (entries : List ℕ) (number : ℕ) (ts : List ℕ)
-    → AllByRecursion (IsFar image entries) ts → Sets (named image entries) (far_statements number ts)
+far_sets : (image : ProgramImage) (said : Said) (number : ℕ) (ts : List ℕ)
+    → AllByRecursion (IsFar image said) ts → Sets (named image said) (far_statements number ts)
 unfolding far_statements
-far_sets image entries number [] all = no_set
-far_sets image entries number (t ∷ ts) all =
-    a_set number (label_of t) 6 t (target_low image entries t all.0.0, inr (refl, inr all.0))
-    (far_sets image entries (number + 1) ts all.1)
+far_sets image said number [] all = no_set
+far_sets image said number (t ∷ ts) all =
+    a_set number (label_of t) 6 t (target_low image said t all.0.0, inr (refl, inr all.0))
+    (far_sets image said (number + 1) ts all.1)
 
 far_names : (number : ℕ) (ts : List ℕ) → names_in (far_statements number ts) ≡ map label_of ts
 unfolding far_statements
@@ -148,11 +149,11 @@ far_names number [] = refl
 far_names number (t ∷ ts) =
     ap (λ (ns : List (List ℕ)). let ms : List (List ℕ) = label_of t ∷ ns in ms) (far_names (number + 1) ts)
 
-far_only : (image : ProgramImage) (entries : List ℕ) (S : Type 0) (ts : List ℕ)
-    → AllByRecursion (IsFar image entries) ts → NameOnly (λ a. byte_at image a ≡ None) S (map label_of ts)
-far_only image entries S [] all = tt
-far_only image entries S (t ∷ ts) all =
-    (inr (t, refl, target_low image entries t all.0.0, all.0.1), far_only image entries S ts all.1)
+far_only : (image : ProgramImage) (said : Said) (S : Type 0) (ts : List ℕ)
+    → AllByRecursion (IsFar image said) ts → NameOnly (λ a. byte_at image a ≡ None) S (map label_of ts)
+far_only image said S [] all = tt
+far_only image said S (t ∷ ts) all =
+    (inr (t, refl, target_low image said t all.0.0, all.0.1), far_only image said S ts all.1)
 
 -- each is none of some
 abbrev NoneOf : List ℕ → ℕ → Type 0
@@ -211,51 +212,51 @@ none_before [] = tt
 none_before (t ∷ ts) = (tt, none_before ts)
 
 -- the statements in front of the parts
-pub record Front (image : ProgramImage) (entries far : List ℕ) (lines : List (List ℕ)) : Type 0 where
+pub record Front (image : ProgramImage) (said : Said) (far : List ℕ) (lines : List (List ℕ)) : Type 0 where
   pub statements : List Statement
   pub stated : Stated 1 lines statements
-  pub are_sets : Sets (named image entries) statements
-  pub only : NameOnly (λ a. byte_at image a ≡ None) (IsCode image entries image.start → ⊥) (names_in statements)
+  pub are_sets : Sets (named image said) statements
+  pub only : NameOnly (λ a. byte_at image a ≡ None) (IsCode image said image.start → ⊥) (names_in statements)
   pub once : AreOnce [] (names_in statements)
   pub far_named : (t : ℕ) → Contains far t → HasName (label_of t) (names_in statements)
-  pub start : HasName (codes "_start") (names_in statements) ⊎ ((IsCode image entries image.start → ⊥) → ⊥)
+  pub start : HasName (codes "_start") (names_in statements) ⊎ ((IsCode image said image.start → ⊥) → ⊥)
 
-start_only : (image : ProgramImage) (entries : List ℕ) → (IsCode image entries image.start → ⊥)
-    → NameOnly (λ a. ⊥) (IsCode image entries image.start → ⊥) (codes "_start" ∷ [])
-start_only image entries none = (inl (refl, none), tt)
+start_only : (image : ProgramImage) (said : Said) → (IsCode image said image.start → ⊥)
+    → NameOnly (λ a. ⊥) (IsCode image said image.start → ⊥) (codes "_start" ∷ [])
+start_only image said none = (inl (refl, none), tt)
 
-pub front : (image : ProgramImage) (entries far : List ℕ) (start : List (List ℕ)) → image.start < 2 ^ 32
-    → LineWhere (¬ IsCode image entries image.start) (start_line image.start) start → AreFar image entries far
-    → Front image entries far (start ++ map far_line far)
-front image entries far start low is_start are = by start is_start
+pub front : (image : ProgramImage) (said : Said) (far : List ℕ) (start : List (List ℕ)) → image.start < 2 ^ 32
+    → LineWhere (¬ IsCode image said image.start) (start_line image.start) start → AreFar image said far
+    → Front image said far (start ++ map far_line far)
+front image said far start low is_start are = by start is_start
   where
-    each : AllByRecursion (IsFar image entries) far
-    each = all_by (IsFar image entries) far (λ t c. (are.exactly t).0 c)
+    each : AllByRecursion (IsFar image said) far
+    each = all_by (IsFar image said) far (λ t c. (are.exactly t).0 c)
 
     lows : AllByRecursion (λ t. t < 2 ^ 32) far
-    lows = all_by (λ t. t < 2 ^ 32) far (λ t c. target_low image entries t ((are.exactly t).0 c).0)
+    lows = all_by (λ t. t < 2 ^ 32) far (λ t c. target_low image said t ((are.exactly t).0 c).0)
 
     once : AreOnce [] (map label_of far)
     once = far_once [] far tt lows (none_before far) are.ascending
 
-    by : (lines : List (List ℕ)) → LineWhere (¬ IsCode image entries image.start) (start_line image.start) lines
-        → Front image entries far (lines ++ map far_line far)
+    by : (lines : List (List ℕ)) → LineWhere (¬ IsCode image said image.start) (start_line image.start) lines
+        → Front image said far (lines ++ map far_line far)
     by _ (so none) =
         let names : names_in (far_statements 2 far) ≡ map label_of far = far_names 2 far in
         record {
           statements = unlabelled 1 (body.Set (codes "_start") 6 image.start) ∷ far_statements 2 far;
           stated = (
             spoken 1 (start_line image.start) (body.Set (codes "_start") 6 image.start) (said_start 1 image.start low),
-            far_stated image entries 2 far each,
+            far_stated image said 2 far each,
           );
-          are_sets = a_set 1 (codes "_start") 6 image.start (low, inl (refl, refl)) (far_sets image entries 2 far each);
+          are_sets = a_set 1 (codes "_start") 6 image.start (low, inl (refl, refl)) (far_sets image said 2 far each);
           only =
-              (inl (refl, none), subst (NameOnly _ _) (sym names) (far_only image entries _ far each));
+              (inl (refl, none), subst (NameOnly _ _) (sym names) (far_only image said _ far each));
           once =
               subst (λ (ns : List (List ℕ)). AreOnce [] (codes "_start" ∷ ns)) (sym names)
-              (once_both (λ a. ⊥) (λ a. byte_at image a ≡ None) (IsCode image entries image.start → ⊥) ⊥
-              (codes "_start" ∷ []) (map label_of far) (λ a h k. h) (λ s h. h) (start_only image entries none)
-              (far_only image entries ⊥ far each) (tt, tt) once);
+              (once_both (λ a. ⊥) (λ a. byte_at image a ≡ None) (IsCode image said image.start → ⊥) ⊥
+              (codes "_start" ∷ []) (map label_of far) (λ a h k. h) (λ s h. h) (start_only image said none)
+              (far_only image said ⊥ far each) (tt, tt) once);
           far_named = λ t c.
               inr (subst (HasName (label_of t)) (sym names) (name_contained far t c));
           start = inl (inl refl);
@@ -264,30 +265,30 @@ front image entries far start low is_start are = by start is_start
         let names : names_in (far_statements 1 far) ≡ map label_of far = far_names 1 far in
         record {
           statements = far_statements 1 far;
-          stated = far_stated image entries 1 far each;
-          are_sets = far_sets image entries 1 far each;
-          only = subst (NameOnly _ _) (sym names) (far_only image entries _ far each);
+          stated = far_stated image said 1 far each;
+          are_sets = far_sets image said 1 far each;
+          only = subst (NameOnly _ _) (sym names) (far_only image said _ far each);
           once = subst (AreOnce []) (sym names) once;
           far_named = λ t c. subst (HasName (label_of t)) (sym names) (name_contained far t c);
           start = inr double;
         }
 
 -- what a source is made of
-pub record IsMade (image : ProgramImage) (entries text : List ℕ) : Type 0 where
+pub record IsMade (image : ProgramImage) (said : Said) (text : List ℕ) : Type 0 where
   pub runs : List Placed
   pub sets : List Statement
   pub statements : List Statement
-  pub written : IsWritten (named image entries) image.start runs sets statements
+  pub written : IsWritten (named image said) image.start runs sets statements
   pub is_unit : IsUnit text (unit_of (sets ++ statements))
   pub same : (a : ℕ) → byte_among runs a ≡ byte_at image a
-  pub branches : (a : ℕ) → IsCode image entries a → (i : Instr) (t : ℕ) → HoldsInstruction image a i → branch_target a i ≡ Some t
+  pub branches : (a : ℕ) → IsCode image said a → (i : Instr) (t : ℕ) → HoldsInstruction image a i → branch_target a i ≡ Some t
       → HasAt (IsBranchTo a i t) 0 statements
 
-sets_behind : (image : ProgramImage) (entries : List ℕ) (xs ys : List Statement) → Sets (named image entries) xs
-    → Sets (named image entries) ys → Sets (named image entries) (xs ++ ys)
-sets_behind image entries _ ys no_set k = k
-sets_behind image entries _ ys (a_set {xs = xs} n name col value is others) k =
-    a_set n name col value is (sets_behind image entries xs ys others k)
+sets_behind : (image : ProgramImage) (said : Said) (xs ys : List Statement) → Sets (named image said) xs
+    → Sets (named image said) ys → Sets (named image said) (xs ++ ys)
+sets_behind image said _ ys no_set k = k
+sets_behind image said _ ys (a_set {xs = xs} n name col value is others) k =
+    a_set n name col value is (sets_behind image said xs ys others k)
 
 pub each_part : (image : ProgramImage) → IsImage image → (from : List Placed) (runs : List Placed)
     → parts image ≡ from ++ runs → EachPart image runs
@@ -307,27 +308,27 @@ each_part image is from (run ∷ runs) all =
     get_behind (x ∷ xs) = get_behind xs
 
 -- each name of a source is defined, once
-pub record AreDefined (image : ProgramImage) (entries : List ℕ) (first last : List (List ℕ)) : Type 0 where
+pub record AreDefined (image : ProgramImage) (said : Said) (first last : List (List ℕ)) : Type 0 where
   pub once : AreOnce [] (first ++ last)
-  pub defined : (name : List ℕ) (a : ℕ) → named image entries name a → HasName name (first ++ last)
+  pub defined : (name : List ℕ) (a : ℕ) → named image said name a → HasName name (first ++ last)
 
-pub code_some : (image : ProgramImage) (entries : List ℕ) (a : ℕ) → IsCode image entries a → IsSome (byte_at image a)
-code_some image entries a code = by (byte_at image a) refl
+pub code_some : (image : ProgramImage) (said : Said) (a : ℕ) → IsCode image said a → IsSome (byte_at image a)
+code_some image said a code = by (byte_at image a) refl
   where
     by : (o : Option ℕ) → byte_at image a ≡ o → IsSome (byte_at image a)
     by (Some b) e = subst IsSome (sym e) refl
     by None e =
-        absurd (no_byte_within image a 0 (code_stands image entries a code) (omega arith)
+        absurd (no_byte_within image a 0 (code_stands image said a code) (omega arith)
         (ap (byte_at image) (let f : a + 0 ≡ a = omega arith in f) ∙ e))
 
-pub are_defined : (image : ProgramImage) (entries far : List ℕ) (lines : List (List ℕ)) → AreFar image entries far
-    → (f : Front image entries far lines) (last : List (List ℕ))
-    → AreThose image entries last (InParts (parts image)) (InParts (parts image) image.start)
-    → AreDefined image entries (names_in f.statements) last
+pub are_defined : (image : ProgramImage) (said : Said) (far : List ℕ) (lines : List (List ℕ)) → AreFar image said far
+    → (f : Front image said far lines) (last : List (List ℕ))
+    → AreThose image said last (InParts (parts image)) (InParts (parts image) image.start)
+    → AreDefined image said (names_in f.statements) last
 unfolding byte_at
-are_defined image entries far lines are_far f last those = record {
-  once = once_both (λ a. byte_at image a ≡ None) (λ a. IsSome (byte_at image a)) (IsCode image entries image.start → ⊥)
-      (IsCode image entries image.start) first last (λ a h k. some_not (byte_at image a) k h) (λ h k. h k) f.only
+are_defined image said far lines are_far f last those = record {
+  once = once_both (λ a. byte_at image a ≡ None) (λ a. IsSome (byte_at image a)) (IsCode image said image.start → ⊥)
+      (IsCode image said image.start) first last (λ a h k. some_not (byte_at image a) k h) (λ h k. h k) f.only
       (only_more _ _ _ _ last (λ a h. h.1) (λ h. h.1) those.only) f.once those.once;
   defined = λ name a h. defined name a h.1;
 }
@@ -339,7 +340,7 @@ are_defined image entries far lines are_far f last those = record {
     some_not (Some b) some e = absurd cc
     some_not None some e = absurd cc
 
-    start_by : HasName (codes "_start") first ⊎ ((IsCode image entries image.start → ⊥) → ⊥)
+    start_by : HasName (codes "_start") first ⊎ ((IsCode image said image.start → ⊥) → ⊥)
         → HasName (codes "_start") (first ++ last)
     start_by (inl has) = name_before (codes "_start") first last has
     start_by (inr double) =
@@ -349,7 +350,7 @@ are_defined image entries far lines are_far f last those = record {
             | inr none ↦ absurd (double none)
           ]
           | inr none ↦ absurd (double (λ code. some_not (byte_at image image.start)
-              (code_some image entries image.start code) none))
+              (code_some image said image.start code) none))
         ]
       where
         has_byte : (o : Option ℕ) → byte_at image image.start ≡ o
@@ -358,7 +359,7 @@ are_defined image entries far lines are_far f last those = record {
         has_byte None e = inr e
 
     defined : (name : List ℕ) (a : ℕ)
-        → ((name ≡ codes "_start") × (a ≡ image.start)) ⊎ ((name ≡ label_of a) × IsNameable image entries a)
+        → ((name ≡ codes "_start") × (a ≡ image.start)) ⊎ ((name ≡ label_of a) × IsNameable image said a)
         → HasName name (first ++ last)
     defined name a (inl x) = subst (λ (n : List ℕ). HasName n (first ++ last)) (sym x.0) (start_by f.start)
     defined name a (inr (e, inl label)) =
@@ -368,21 +369,21 @@ are_defined image entries far lines are_far f last those = record {
         subst (λ (n : List ℕ). HasName n (first ++ last)) (sym e)
         (name_before (label_of a) first last (f.far_named a ((are_far.exactly a).1 is_far)))
 
-pub source_made : (image : ProgramImage) (entries text : List ℕ) → IsImage image → IsSource image entries text
-    → IsMade image entries text
+pub source_made : (image : ProgramImage) (said : Said) (text : List ℕ) → IsImage image → IsSource image said text
+    → IsMade image said text
 unfolding byte_at byte_count
-source_made image entries text is s =
+source_made image said text is s =
     let runs : List Placed = parts image in
     let pieces : ArePieces runs = pieces_of 0 runs is.apart is.bytes in
-    let f : Front image entries s.far (s.start ++ map far_line s.far) =
-    front image entries s.far s.start is.start s.starts s.are_far in
+    let f : Front image said s.far (s.start ++ map far_line s.far) =
+    front image said s.far s.start is.start s.starts s.are_far in
     let later : ℕ = 1 + length (s.start ++ map far_line s.far) in
-    let t : ToldParts image entries later 0 runs s.lines =
-    told_parts image entries later 0 runs s.lines is.apart pieces is.few (each_part image is [] runs refl) s.are_lines in
+    let t : ToldParts image said later 0 runs s.lines =
+    told_parts image said later 0 runs s.lines is.apart pieces is.few (each_part image is [] runs refl) s.are_lines in
     let names : names_in (f.statements ++ t.told.statements) ≡ names_in f.statements ++ names_in t.told.statements =
     flat_map-append names_of f.statements t.told.statements in
-    let all : AreDefined image entries (names_in f.statements) (names_in t.told.statements) =
-    are_defined image entries s.far (s.start ++ map far_line s.far) s.are_far f (names_in t.told.statements)
+    let all : AreDefined image said (names_in f.statements) (names_in t.told.statements) =
+    are_defined image said s.far (s.start ++ map far_line s.far) s.are_far f (names_in t.told.statements)
     t.told.those in
     record {
       runs = t.told.runs;
@@ -391,8 +392,8 @@ source_made image entries text is s =
       written = record {
         are_sets = f.are_sets;
         datas = t.told.datas;
-        low = are_low image entries;
-        one = mean_one image entries;
+        low = are_low image said;
+        one = mean_one image said;
         once = subst (AreOnce []) (sym names) all.once;
         defined = λ name a h. subst (HasName name) (sym names) (all.defined name a h);
         starts = (is.start, inl (refl, refl));
@@ -406,18 +407,18 @@ source_made image entries text is s =
           (stated_behind 1 later (s.start ++ map far_line s.far) s.lines f.statements t.told.statements refl f.stated
           t.told.stated);
       same = t.bytes_are;
-      branches = λ a code. t.told.branches a (in_part runs a (code_some image entries a code)) code;
+      branches = λ a code. t.told.branches a (in_part runs a (code_some image said a code)) code;
     }
 
 -- so `build` of it makes the image
-pub source_again : (image : ProgramImage) (entries text : List ℕ) → IsImage image → IsSource image entries text
+pub source_again : (image : ProgramImage) (said : Said) (text : List ℕ) → IsImage image → IsSource image said text
     → WritesImage text image
-source_again image entries text is s =
-    let m : IsMade image entries text = source_made image entries text is s in
+source_again image said text is s =
+    let m : IsMade image said text = source_made image said text is s in
     record {
       unit = unit_of (m.sets ++ m.statements);
       is_unit = m.is_unit;
-      accepted = accepted (named image entries) image.start m.runs m.sets m.statements m.written;
-      bytes = λ a. bytes_are (named image entries) image.start m.runs m.sets m.statements a m.written ∙ m.same a;
-      start = start_is (named image entries) image.start m.runs m.sets m.statements m.written;
+      accepted = accepted (named image said) image.start m.runs m.sets m.statements m.written;
+      bytes = λ a. bytes_are (named image said) image.start m.runs m.sets m.statements a m.written ∙ m.same a;
+      start = start_is (named image said) image.start m.runs m.sets m.statements m.written;
     }

@@ -15,6 +15,7 @@ use Rattle.m88_disasm.proofs.Laws.{Data, Means, Names, PartsData, more_data, mor
 use Rattle.m88_sourcing.specs.Code.{IsCode, HoldsInstruction}
 use Rattle.m88_sourcing.specs.Flow.{branch_target}
 use Rattle.m88_sourcing.specs.Insertion.{IsAgainAt}
+use Rattle.m88_sourcing.specs.Said.{Said}
 use Rattle.m88_sourcing.proofs.Names.{named}
 use Rattle.m88_sourcing.proofs.Parted.{Parted, found_before, found_behind, found_past, parted}
 use Rattle.m88_sourcing.proofs.Places.{AllAt, HasAt, IsBranchAt, IsBranchTo, IsPlain, IsSimple, NoPlaceIs, WaitsFor, all_apart, anywhere, has_behind_data, has_behind_parts, has_in_front, place_behind, place_given}
@@ -24,11 +25,11 @@ use Rattle.m88_sourcing.proofs.Skeleton.{behind_bare}
 use Rattle.m88_sourcing.proofs.Told.{Among, HasBytes}
 
 -- a statement at an address that gives the byte of the image at another
-pub record HoldsByte (image : ProgramImage) (entries : List ℕ) (a q : ℕ) (x : Statement) : Type 0 where
+pub record HoldsByte (image : ProgramImage) (said : Said) (a q : ℕ) (x : Statement) : Type 0 where
   pub from : q ≤ a
   pub below : a < q + length_at 0 x.body
-  pub simple : IsSimple image entries q x
-  pub byte : (value : List ℕ → ℕ) → Means (named image entries) value
+  pub simple : IsSimple image said q x
+  pub byte : (value : List ℕ → ℕ) → Means (named image said) value
       → slice_get (filled_bytes value q 0 x.body) (a - q) ≡ byte_at image a
 
 bytes_behind : (image : ProgramImage) (at : ℕ) (given rest bytes : List ℕ) → bytes ≡ given ++ rest
@@ -42,12 +43,12 @@ bytes_behind image at given rest bytes are has k low =
     ∙ slice_get-append_right given rest (length given + k) (omega arith)
     ∙ ap (slice_get rest) f
 
-byte_data : (image : ProgramImage) (entries : List ℕ) (a q : ℕ) (bytes : List ℕ) (xs : List Statement)
-    → Data (named image entries) q bytes xs → AllAt (IsSimple image entries) q xs → HasBytes image q bytes
-    → Among q (length bytes) a → HasAt (HoldsByte image entries a) q xs
-byte_data image entries a q _ _ no_data all has among =
+byte_data : (image : ProgramImage) (said : Said) (a q : ℕ) (bytes : List ℕ) (xs : List Statement)
+    → Data (named image said) q bytes xs → AllAt (IsSimple image said) q xs → HasBytes image q bytes
+    → Among q (length bytes) a → HasAt (HoldsByte image said a) q xs
+byte_data image said a q _ _ no_data all has among =
     absurd (let x = among.0 in let y = among.1 in omega (arith, x, y))
-byte_data image entries a q bytes _ (more_data {x = x} {xs = xs} given rest are gives tail) all has among =
+byte_data image said a q bytes _ (more_data {x = x} {xs = xs} given rest are gives tail) all has among =
     let size : length bytes ≡ length given + length rest = ap length are ∙ length-append given rest in
     let place : place_behind q x.body ≡ q + length given =
     place_given x.line q (length given) x.body gives.opens_none (gives.length_is 0) in
@@ -69,29 +70,29 @@ byte_data image entries a q bytes _ (more_data {x = x} {xs = xs} given rest are 
                 ∙ ap (byte_at image) there;
           })
       | inr high ↦
-          inr (subst (λ (p : ℕ). HasAt (HoldsByte image entries a) p xs) (sym place)
-          (byte_data image entries a (q + length given) rest xs tail
-          (subst (λ (p : ℕ). AllAt (IsSimple image entries) p xs) place all.1)
+          inr (subst (λ (p : ℕ). HasAt (HoldsByte image said a) p xs) (sym place)
+          (byte_data image said a (q + length given) rest xs tail
+          (subst (λ (p : ℕ). AllAt (IsSimple image said) p xs) place all.1)
           (bytes_behind image q given rest bytes are has) (high, omega (arith, past, size))))
     ]
 
-byte_parts : (image : ProgramImage) (entries : List ℕ) (a p : ℕ) (runs : List Placed) (xs : List Statement)
-    → PartsData (named image entries) runs xs → AllAt (IsSimple image entries) p xs → EachHas image runs
-    → InParts runs a → HasAt (HoldsByte image entries a) p xs
-byte_parts image entries a p _ _ no_parts all has among = absurd among
-byte_parts image entries a p _ xs (more_parts {run = run} {runs = runs} n own more are datas others) all has among =
-    let Is : ℕ → Statement → Type 0 = IsSimple image entries in
-    let Holds : ℕ → Statement → Type 0 = HoldsByte image entries a in
+byte_parts : (image : ProgramImage) (said : Said) (a p : ℕ) (runs : List Placed) (xs : List Statement)
+    → PartsData (named image said) runs xs → AllAt (IsSimple image said) p xs → EachHas image runs
+    → InParts runs a → HasAt (HoldsByte image said a) p xs
+byte_parts image said a p _ _ no_parts all has among = absurd among
+byte_parts image said a p _ xs (more_parts {run = run} {runs = runs} n own more are datas others) all has among =
+    let Is : ℕ → Statement → Type 0 = IsSimple image said in
+    let Holds : ℕ → Statement → Type 0 = HoldsByte image said a in
     let end : ℕ = run.at + length run.bytes in
     let each : AllAt Is run.at own × AllAt Is end more =
-    all_apart Is (named image entries) run.at end run.bytes own more refl datas (subst (AllAt Is p) are all).1 in
+    all_apart Is (named image said) run.at end run.bytes own more refl datas (subst (AllAt Is p) are all).1 in
     subst (HasAt Holds p) (sym are)
     (inr (elim among [
       | inl h ↦
-          has_in_front Holds run.at own more (byte_data image entries a run.at run.bytes own datas each.0 has.0 h)
+          has_in_front Holds run.at own more (byte_data image said a run.at run.bytes own datas each.0 has.0 h)
       | inr h ↦
-          has_behind_data Holds (named image entries) run.at end run.bytes own more refl datas
-          (byte_parts image entries a end runs more others each.1 has.1 h)
+          has_behind_data Holds (named image said) run.at end run.bytes own more refl datas
+          (byte_parts image said a end runs more others each.1 has.1 h)
     ]))
 
 -- among statements further on
@@ -130,178 +131,178 @@ further Is Named n q bytes _ (more_data {x = x} {xs = xs} given rest are gives t
     ]
 
 -- the parts of a source with a statement more
-in_first : (image : ProgramImage) (entries : List ℕ) (w : ℕ) (m : Parted image entries w) (Is : ℕ → Statement → Type 0)
+in_first : (image : ProgramImage) (said : Said) (w : ℕ) (m : Parted image said w) (Is : ℕ → Statement → Type 0)
     → HasAt Is 0 m.l.front.statements → HasAt Is 0 (parted m)
-in_first image entries w m Is h = has_in_front Is 0 m.l.front.statements _ h
+in_first image said w m Is h = has_in_front Is 0 m.l.front.statements _ h
 
-behind_first : (image : ProgramImage) (entries : List ℕ) (w : ℕ) (m : Parted image entries w)
+behind_first : (image : ProgramImage) (said : Said) (w : ℕ) (m : Parted image said w)
     (Is : ℕ → Statement → Type 0)
     → HasAt Is m.l.s (m.l.a.listed.statements ++ m.x ∷ (m.l.b.listed.statements ++ m.l.back.statements))
     → HasAt Is 0 (parted m)
-behind_first image entries w m Is h =
-    has_behind_parts Is (named image entries) 0 m.l.front.runs m.l.front.statements _ m.l.front.datas (λ q. inr h)
+behind_first image said w m Is h =
+    has_behind_parts Is (named image said) 0 m.l.front.runs m.l.front.statements _ m.l.front.datas (λ q. inr h)
 
-in_own : (image : ProgramImage) (entries : List ℕ) (w : ℕ) (m : Parted image entries w) (Is : ℕ → Statement → Type 0)
+in_own : (image : ProgramImage) (said : Said) (w : ℕ) (m : Parted image said w) (Is : ℕ → Statement → Type 0)
     → HasAt Is m.l.s m.l.a.listed.statements → HasAt Is 0 (parted m)
-in_own image entries w m Is h =
-    behind_first image entries w m Is (has_in_front Is m.l.s m.l.a.listed.statements _ h)
+in_own image said w m Is h =
+    behind_first image said w m Is (has_in_front Is m.l.s m.l.a.listed.statements _ h)
 
-behind_own : (image : ProgramImage) (entries : List ℕ) (w : ℕ) (m : Parted image entries w)
+behind_own : (image : ProgramImage) (said : Said) (w : ℕ) (m : Parted image said w)
     (Is : ℕ → Statement → Type 0)
     → HasAt Is (w + 4 + 4) (m.l.b.listed.statements ++ m.l.back.statements) → HasAt Is 0 (parted m)
-behind_own image entries w m Is h =
+behind_own image said w m Is h =
     let place : place_behind (w + 4) m.x.body ≡ w + 4 + 4 =
     sym (behind_bare (w + 4) m.x.body m.tame) ∙ ap (place_behind (w + 4)) m.bare_is in
-    behind_first image entries w m Is
-    (has_behind_data Is (named image entries) m.l.s (w + 4) m.l.bytes_a m.l.a.listed.statements _ (sym m.l.a_ends)
+    behind_first image said w m Is
+    (has_behind_data Is (named image said) m.l.s (w + 4) m.l.bytes_a m.l.a.listed.statements _ (sym m.l.a_ends)
     m.l.a.listed.datas (inr (subst (λ (p : ℕ). HasAt Is p (m.l.b.listed.statements ++ m.l.back.statements)) (sym place)
     h)))
 
-in_more : (image : ProgramImage) (entries : List ℕ) (w : ℕ) (m : Parted image entries w) (Is : ℕ → Statement → Type 0)
+in_more : (image : ProgramImage) (said : Said) (w : ℕ) (m : Parted image said w) (Is : ℕ → Statement → Type 0)
     → HasAt Is (w + 4 + 4) m.l.b.listed.statements → HasAt Is 0 (parted m)
-in_more image entries w m Is h =
-    behind_own image entries w m Is (has_in_front Is (w + 4 + 4) m.l.b.listed.statements m.l.back.statements h)
+in_more image said w m Is h =
+    behind_own image said w m Is (has_in_front Is (w + 4 + 4) m.l.b.listed.statements m.l.back.statements h)
 
-in_last : (image : ProgramImage) (entries : List ℕ) (w : ℕ) (m : Parted image entries w) (Is : ℕ → Statement → Type 0)
+in_last : (image : ProgramImage) (said : Said) (w : ℕ) (m : Parted image said w) (Is : ℕ → Statement → Type 0)
     → NoPlaceIs Is → HasAt Is m.l.e m.l.back.statements → HasAt Is 0 (parted m)
-in_last image entries w m Is never h =
-    behind_own image entries w m Is (has_any Is (w + 4 + 4) m.l.b.listed.statements m.l.back.statements
-    (λ q. anywhere Is (named image entries) m.l.e q m.l.back.runs m.l.back.statements never m.l.back.datas h))
+in_last image said w m Is never h =
+    behind_own image said w m Is (has_any Is (w + 4 + 4) m.l.b.listed.statements m.l.back.statements
+    (λ q. anywhere Is (named image said) m.l.e q m.l.back.runs m.l.back.statements never m.l.back.datas h))
 
 -- each byte of the image is given at the address where it is found again
-pub record IsByteAgain (image : ProgramImage) (entries : List ℕ) (w a p : ℕ) (x : Statement) : Type 0 where
+pub record IsByteAgain (image : ProgramImage) (said : Said) (w a p : ℕ) (x : Statement) : Type 0 where
   pub q : ℕ
-  pub holds : HoldsByte image entries a q x
-  pub found : IsAgainAt image entries w a (p + (a - q))
+  pub holds : HoldsByte image said a q x
+  pub found : IsAgainAt image said w a (p + (a - q))
 
-byte_again : (image : ProgramImage) (entries : List ℕ) (w a n : ℕ) → IsAgainAt image entries w a (a + n) → (p : ℕ)
-    (x : Statement) → Further n (HoldsByte image entries a) p x → IsByteAgain image entries w a p x
-byte_again image entries w a n found p x (q, is, holds) =
+byte_again : (image : ProgramImage) (said : Said) (w a n : ℕ) → IsAgainAt image said w a (a + n) → (p : ℕ)
+    (x : Statement) → Further n (HoldsByte image said a) p x → IsByteAgain image said w a p x
+byte_again image said w a n found p x (q, is, holds) =
     let from = holds.from in
     let there : a + n ≡ p + (a - q) = omega (arith, is, from) in
-    record { q = q; holds = holds; found = subst (IsAgainAt image entries w a) there found }
+    record { q = q; holds = holds; found = subst (IsAgainAt image said w a) there found }
 
-no_byte_of_place : (image : ProgramImage) (entries : List ℕ) (w a : ℕ) → NoPlaceIs (IsByteAgain image entries w a)
-no_byte_of_place image entries w a at n b is =
+no_byte_of_place : (image : ProgramImage) (said : Said) (w a : ℕ) → NoPlaceIs (IsByteAgain image said w a)
+no_byte_of_place image said w a at n b is =
     let from = is.holds.from in let below = is.holds.below in absurd (omega (arith, from, below))
 
-pub find_byte : (image : ProgramImage) (entries : List ℕ) (w : ℕ) (m : Parted image entries w) (a : ℕ)
-    → IsSome (byte_at image a) → HasAt (IsByteAgain image entries w a) 0 (parted m)
+pub find_byte : (image : ProgramImage) (said : Said) (w : ℕ) (m : Parted image said w) (a : ℕ)
+    → IsSome (byte_at image a) → HasAt (IsByteAgain image said w a) 0 (parted m)
 unfolding byte_at
-find_byte image entries w m a some =
+find_byte image said w m a some =
     let k : InParts (parts image) a = in_part (parts image) a some in
     let holds = m.l.holds in
     let a_ends = m.l.a_ends in
     let b_ends = m.l.b_ends in
-    let Holds : ℕ → Statement → Type 0 = HoldsByte image entries a in
-    let Is : ℕ → Statement → Type 0 = IsByteAgain image entries w a in
+    let Holds : ℕ → Statement → Type 0 = HoldsByte image said a in
+    let Is : ℕ → Statement → Type 0 = IsByteAgain image said w a in
     let same : (q : ℕ) (x : Statement) → Holds q x → Further 0 Holds q x = λ q x h. (q, omega arith, h) in
     elim (cases_lt a m.l.s) [
       | inl low ↦
-          in_first image entries w m Is
+          in_first image said w m Is
           (has_map Holds Is 0 m.l.front.statements
-          (λ q x h. byte_again image entries w a 0 (found_before image entries w m a (omega (arith, low, holds))) q x
+          (λ q x h. byte_again image said w a 0 (found_before image said w m a (omega (arith, low, holds))) q x
           (same q x h))
-          (byte_parts image entries a 0 m.l.front.runs m.l.front.statements m.l.front.datas m.l.front.simple
+          (byte_parts image said a 0 m.l.front.runs m.l.front.statements m.l.front.datas m.l.front.simple
           m.l.front.has
           (m.l.front.covers a (k, low))))
       | inr from ↦ elim (cases_lt a (w + 4)) [
         | inl low ↦
-            in_own image entries w m Is
+            in_own image said w m Is
             (has_map Holds Is m.l.s m.l.a.listed.statements
-            (λ q x h. byte_again image entries w a 0 (found_before image entries w m a low) q x (same q x h))
-            (byte_data image entries a m.l.s m.l.bytes_a m.l.a.listed.statements m.l.a.listed.datas m.l.a.simple
+            (λ q x h. byte_again image said w a 0 (found_before image said w m a low) q x (same q x h))
+            (byte_data image said a m.l.s m.l.bytes_a m.l.a.listed.statements m.l.a.listed.datas m.l.a.simple
             m.l.has_a
             (from, omega (arith, low, a_ends))))
         | inr behind ↦ elim (cases_lt a m.l.e) [
           | inl low ↦
-              in_more image entries w m Is
+              in_more image said w m Is
               (has_map (Further 4 Holds) Is (w + 4 + 4) m.l.b.listed.statements
-              (byte_again image entries w a 4 (found_behind image entries w m a (behind, omega (arith, low, b_ends))))
-              (further Holds (named image entries) 4 (w + 4) m.l.bytes_b m.l.b.listed.statements m.l.b.listed.datas
-              (byte_data image entries a (w + 4) m.l.bytes_b m.l.b.listed.statements m.l.b.listed.datas m.l.b.simple
+              (byte_again image said w a 4 (found_behind image said w m a (behind, omega (arith, low, b_ends))))
+              (further Holds (named image said) 4 (w + 4) m.l.bytes_b m.l.b.listed.statements m.l.b.listed.datas
+              (byte_data image said a (w + 4) m.l.bytes_b m.l.b.listed.statements m.l.b.listed.datas m.l.b.simple
               m.l.has_b (behind, omega (arith, low, b_ends)))))
           | inr high ↦
-              in_last image entries w m Is (no_byte_of_place image entries w a)
+              in_last image said w m Is (no_byte_of_place image said w a)
               (has_map Holds Is m.l.e m.l.back.statements
-              (λ q x h. byte_again image entries w a 0 (found_past image entries w m a high) q x (same q x h))
-              (byte_parts image entries a m.l.e m.l.back.runs m.l.back.statements m.l.back.datas m.l.back.simple
+              (λ q x h. byte_again image said w a 0 (found_past image said w m a high) q x (same q x h))
+              (byte_parts image said a m.l.e m.l.back.runs m.l.back.statements m.l.back.datas m.l.back.simple
               m.l.back.has (m.l.back.covers a (k, high))))
         ]
       ]
     ]
 
 -- and each branch stands there
-pub record IsBranchAgain (image : ProgramImage) (entries : List ℕ) (w a p : ℕ) (x : Statement) : Type 0 where
-  pub branch : IsBranchAt image entries a x
-  pub found : IsAgainAt image entries w a p
+pub record IsBranchAgain (image : ProgramImage) (said : Said) (w a p : ℕ) (x : Statement) : Type 0 where
+  pub branch : IsBranchAt image said a x
+  pub found : IsAgainAt image said w a p
 
-branch_again : (image : ProgramImage) (entries : List ℕ) (w a n : ℕ) (i : Instr) (t : ℕ)
-    → IsAgainAt image entries w a (a + n) → (p : ℕ) (x : Statement)
-    → Further n (λ q y. IsBranchTo a i t q y × IsSimple image entries q y) p x → IsBranchAgain image entries w a p x
-branch_again image entries w a n i t found p x (q, is, ((same, waits), simple)) =
+branch_again : (image : ProgramImage) (said : Said) (w a n : ℕ) (i : Instr) (t : ℕ)
+    → IsAgainAt image said w a (a + n) → (p : ℕ) (x : Statement)
+    → Further n (λ q y. IsBranchTo a i t q y × IsSimple image said q y) p x → IsBranchAgain image said w a p x
+branch_again image said w a n i t found p x (q, is, ((same, waits), simple)) =
     let there : a + n ≡ p = omega (arith, is, same) in
     record {
       branch = by simple;
-      found = subst (IsAgainAt image entries w a) there found;
+      found = subst (IsAgainAt image said w a) there found;
     }
   where
     no_plain : (f : Instr) → x.body ≡ body.Code f (Some (WaitsFor.name waits)) → IsPlain x.body → ⊥
     no_plain f e plain = subst IsPlain e plain
 
-    by : IsSimple image entries q x → IsBranchAt image entries a x
+    by : IsSimple image said q x → IsBranchAt image said a x
     by (inl plain) = absurd (no_plain _ (WaitsFor.body_is waits) plain)
-    by (inr b) = subst (λ (r : ℕ). IsBranchAt image entries r x) same b
+    by (inr b) = subst (λ (r : ℕ). IsBranchAt image said r x) same b
 
-no_branch_of_place : (image : ProgramImage) (entries : List ℕ) (w a : ℕ) → NoPlaceIs (IsBranchAgain image entries w a)
-no_branch_of_place image entries w a at n b is = absurd (no_code (WaitsFor.body_is is.branch.waits))
+no_branch_of_place : (image : ProgramImage) (said : Said) (w a : ℕ) → NoPlaceIs (IsBranchAgain image said w a)
+no_branch_of_place image said w a at n b is = absurd (no_code (WaitsFor.body_is is.branch.waits))
   where
     no_code : {j : Instr} {f : Fixup} → body.At b ≡ body.Code j (Some f) → ⊥
     no_code e = absurd cc
 
-pub find_branch : (image : ProgramImage) (entries : List ℕ) (w : ℕ) (m : Parted image entries w) (a : ℕ) (i : Instr)
+pub find_branch : (image : ProgramImage) (said : Said) (w : ℕ) (m : Parted image said w) (a : ℕ) (i : Instr)
     (t : ℕ)
-    → IsCode image entries a → HoldsInstruction image a i → branch_target a i ≡ Some t
-    → HasAt (IsBranchAgain image entries w a) 0 (parted m)
+    → IsCode image said a → HoldsInstruction image a i → branch_target a i ≡ Some t
+    → HasAt (IsBranchAgain image said w a) 0 (parted m)
 unfolding byte_at
-find_branch image entries w m a i t code stands to =
-    let k : InParts (parts image) a = in_part (parts image) a (code_some image entries a code) in
+find_branch image said w m a i t code stands to =
+    let k : InParts (parts image) a = in_part (parts image) a (code_some image said a code) in
     let holds = m.l.holds in
     let a_ends = m.l.a_ends in
     let b_ends = m.l.b_ends in
-    let Old : ℕ → Statement → Type 0 = λ q y. IsBranchTo a i t q y × IsSimple image entries q y in
-    let Is : ℕ → Statement → Type 0 = IsBranchAgain image entries w a in
+    let Old : ℕ → Statement → Type 0 = λ q y. IsBranchTo a i t q y × IsSimple image said q y in
+    let Is : ℕ → Statement → Type 0 = IsBranchAgain image said w a in
     let same : (q : ℕ) (x : Statement) → Old q x → Further 0 Old q x = λ q x h. (q, omega arith, h) in
     elim (cases_lt a m.l.s) [
       | inl low ↦
-          in_first image entries w m Is
+          in_first image said w m Is
           (has_map Old Is 0 m.l.front.statements
-          (λ q x h. branch_again image entries w a 0 i t (found_before image entries w m a (omega (arith, low, holds)))
+          (λ q x h. branch_again image said w a 0 i t (found_before image said w m a (omega (arith, low, holds)))
           q x
           (same q x h))
-          (has_all (IsBranchTo a i t) (IsSimple image entries) 0 m.l.front.statements
+          (has_all (IsBranchTo a i t) (IsSimple image said) 0 m.l.front.statements
           (m.l.front.branches a (k, low) code i t stands to) m.l.front.simple))
       | inr from ↦ elim (cases_lt a (w + 4)) [
         | inl low ↦
-            in_own image entries w m Is
+            in_own image said w m Is
             (has_map Old Is m.l.s m.l.a.listed.statements
-            (λ q x h. branch_again image entries w a 0 i t (found_before image entries w m a low) q x (same q x h))
-            (has_all (IsBranchTo a i t) (IsSimple image entries) m.l.s m.l.a.listed.statements
+            (λ q x h. branch_again image said w a 0 i t (found_before image said w m a low) q x (same q x h))
+            (has_all (IsBranchTo a i t) (IsSimple image said) m.l.s m.l.a.listed.statements
             (m.l.a.branches a (from, omega (arith, low, a_ends)) code i t stands to) m.l.a.simple))
         | inr behind ↦ elim (cases_lt a m.l.e) [
           | inl low ↦
-              in_more image entries w m Is
+              in_more image said w m Is
               (has_map (Further 4 Old) Is (w + 4 + 4) m.l.b.listed.statements
-              (branch_again image entries w a 4 i t
-              (found_behind image entries w m a (behind, omega (arith, low, b_ends))))
-              (further Old (named image entries) 4 (w + 4) m.l.bytes_b m.l.b.listed.statements m.l.b.listed.datas
-              (has_all (IsBranchTo a i t) (IsSimple image entries) (w + 4) m.l.b.listed.statements
+              (branch_again image said w a 4 i t
+              (found_behind image said w m a (behind, omega (arith, low, b_ends))))
+              (further Old (named image said) 4 (w + 4) m.l.bytes_b m.l.b.listed.statements m.l.b.listed.datas
+              (has_all (IsBranchTo a i t) (IsSimple image said) (w + 4) m.l.b.listed.statements
               (m.l.b.branches a (behind, omega (arith, low, b_ends)) code i t stands to) m.l.b.simple)))
           | inr high ↦
-              in_last image entries w m Is (no_branch_of_place image entries w a)
+              in_last image said w m Is (no_branch_of_place image said w a)
               (has_map Old Is m.l.e m.l.back.statements
-              (λ q x h. branch_again image entries w a 0 i t (found_past image entries w m a high) q x (same q x h))
-              (has_all (IsBranchTo a i t) (IsSimple image entries) m.l.e m.l.back.statements
+              (λ q x h. branch_again image said w a 0 i t (found_past image said w m a high) q x (same q x h))
+              (has_all (IsBranchTo a i t) (IsSimple image said) m.l.e m.l.back.statements
               (m.l.back.branches a (k, high) code i t stands to) m.l.back.simple))
         ]
       ]

@@ -20,6 +20,7 @@ use Rattle.m88_asm.specs.Units.{base_in, extent_under, extents_in, globals_in, l
 use Rattle.m88_disasm.specs.Read.{unlabelled}
 use Rattle.m88_disasm.proofs.Laws.{Names, Sets, a_set, lengths_cons, lengths_of, located_cons, main, names_in, names_of, no_set, stood}
 use Rattle.m88_sourcing.proofs.Places.{AllAt, IsBranchAt, IsPlain, IsSimple, WaitsFor, place_behind}
+use Rattle.m88_sourcing.specs.Said.{Said}
 
 -- a body that goes on in its section, or opens one, wherever it stands
 abbrev pub IsTame : Body → Type 0
@@ -60,12 +61,12 @@ plain_tame (body.Align n) p = absurd p
 plain_tame (body.Global name) p = absurd p
 plain_tame b p = tt
 
-pub all_tame : (image : ProgramImage) (entries : List ℕ) (at : ℕ) (xs : List Statement)
-    → AllAt (IsSimple image entries) at xs → AreTame xs
-all_tame image entries at [] h = tt
-all_tame image entries at (x ∷ xs) h = (first h.0, all_tame image entries (place_behind at x.body) xs h.1)
+pub all_tame : (image : ProgramImage) (said : Said) (at : ℕ) (xs : List Statement)
+    → AllAt (IsSimple image said) at xs → AreTame xs
+all_tame image said at [] h = tt
+all_tame image said at (x ∷ xs) h = (first h.0, all_tame image said (place_behind at x.body) xs h.1)
   where
-    first : IsSimple image entries at x → IsTame x.body
+    first : IsSimple image said at x → IsTame x.body
     first (inl p) = plain_tame x.body p
     first (inr b) = subst IsTame (sym (WaitsFor.body_is (IsBranchAt.waits b))) tt
 

@@ -22,6 +22,7 @@ use Rattle.m88_sourcing.proofs.Names.{named}
 use Rattle.m88_sourcing.proofs.Places.{HasAt, IsBranchTo, NoPlaceIs, WaitsFor, no_branch, place_behind, place_given}
 use Rattle.m88_sourcing.proofs.Rebuilt.{IsMade, source_made}
 use Rattle.m88_sourcing.proofs.Told.{target_named}
+use Rattle.m88_sourcing.specs.Said.{Said}
 
 -- a row of a module that is so, at its address
 record FoundRow (d : Placement Module) (rs : List Located) (Is : ℕ → Statement → Type 0) : Type 0 where
@@ -113,23 +114,23 @@ sets_row Is Named d c _ xs (a_set {xs = sets} n name col value named others) emp
     found_next d c (unlabelled n (body.Set name col value)) (sets ++ xs) Is
     (sets_row Is Named d (after c (body.Set name col value)) sets xs others (empty_behind c name col value empty) rest)
 
-pub names_targets : (image : ProgramImage) (entries text : List ℕ) (unit : Source) → IsImage image
-    → IsSource image entries text → IsUnit text unit → NamesItsTargets image entries unit
-names_targets image entries text unit is s is_unit =
-    let m : IsMade image entries text = source_made image entries text is s in
+pub names_targets : (image : ProgramImage) (said : Said) (text : List ℕ) (unit : Source) → IsImage image
+    → IsSource image said text → IsUnit text unit → NamesItsTargets image said unit
+names_targets image said text unit is s is_unit =
+    let m : IsMade image said text = source_made image said text is s in
     let same : unit_of (m.sets ++ m.statements) ≡ unit =
     (one_source_verdict text).one_value (unit_of (m.sets ++ m.statements)) unit m.is_unit is_unit in
-    subst (NamesItsTargets image entries) same (made m)
+    subst (NamesItsTargets image said) same (made m)
   where
-    made : (m : IsMade image entries text) → NamesItsTargets image entries (unit_of (m.sets ++ m.statements))
+    made : (m : IsMade image said text) → NamesItsTargets image said (unit_of (m.sets ++ m.statements))
     made m a i t code stands to =
         let xs : List Statement = m.sets ++ m.statements in
         let d : Placement Module = stood xs in
         let g : List Symbol = globals_in d ++ [] in
         let f : FoundRow d (lines_in (main xs)) (IsBranchTo a i t) =
-        sets_row (IsBranchTo a i t) (named image entries) d at_begin m.sets m.statements m.written.are_sets empty_first
-        (λ e h. parts_row (IsBranchTo a i t) (named image entries) d e 2 0 m.runs m.statements (no_branch a i t)
-        (bases (named image entries) image.start m.runs m.sets m.statements m.written) h.fresh m.written.datas
+        sets_row (IsBranchTo a i t) (named image said) d at_begin m.sets m.statements m.written.are_sets empty_first
+        (λ e h. parts_row (IsBranchTo a i t) (named image said) d e 2 0 m.runs m.statements (no_branch a i t)
+        (bases (named image said) image.start m.runs m.sets m.statements m.written) h.fresh m.written.datas
         (m.branches a code i t stands to)) in
         let w : WaitsFor i t f.row.statement = f.is.1 in
         record {
@@ -143,7 +144,7 @@ names_targets image entries text unit is s is_unit =
           symbol = w.symbol;
           alone = w.alone;
           means =
-              means_all (named image entries) image.start m.runs m.sets m.statements g m.written w.name.symbol t
-              (subst (λ (name : List ℕ). named image entries name t) (sym w.symbol)
-              (target_named image entries t (a, code, (i, stands, to))));
+              means_all (named image said) image.start m.runs m.sets m.statements g m.written w.name.symbol t
+              (subst (λ (name : List ℕ). named image said name t) (sym w.symbol)
+              (target_named image said t (a, code, (i, stands, to))));
         }

@@ -27,6 +27,7 @@ use Rattle.m88_disasm.proofs.Laws.{AreOnce, Data, Gives, HasName, Names, SpokenA
 use Rattle.m88_sourcing.specs.Code.{InCode, IsCode, HoldsInstruction}
 use Rattle.m88_sourcing.specs.Flow.{branch_target}
 use Rattle.m88_sourcing.specs.Labels.{HasLabel, IsTarget, code_text, label_line, label_of}
+use Rattle.m88_sourcing.specs.Said.{Said}
 use Rattle.m88_sourcing.specs.Targets.{counting}
 use Rattle.m88_sourcing.specs.Source.{AreCodeLines, AreLooseLines, IsLabelled, IsStartMarked}
 use Rattle.m88_sourcing.specs.Source.LineWhere.{so, not_so}
@@ -40,8 +41,8 @@ use Rattle.m88_sourcing.proofs.Places.{AllAt, HasAt, IsBranchTo, IsPlain, IsSimp
 use Rattle.m88_sourcing.proofs.Names.{NameOnly, name_before, name_behind, named, once_both, only_behind, only_more}
 
 -- code and labels stand at multiples of 4
-pub code_whole : (image : ProgramImage) (entries : List ℕ) (a : ℕ) → IsCode image entries a → a % 4 ≡ 0
-code_whole image entries a is = (code_stands image entries a is).1.0.0
+pub code_whole : (image : ProgramImage) (said : Said) (a : ℕ) → IsCode image said a → a % 4 ≡ 0
+code_whole image said a is = (code_stands image said a is).1.0.0
 
 away_whole : (pc : ℕ) (words : ℤ) → pc % 4 ≡ 0 → words_away pc words % 4 ≡ 0
 away_whole pc words h = by (cast_unsigned w32 words)
@@ -64,37 +65,37 @@ target_is pc t (instr.BranchBit set delayed bit s1 words) e = (words, sym (some_
 target_is pc t (instr.BranchCond delayed mask s1 words) e = (words, sym (some_is _ _ e))
 target_is pc t i e = absurd cc
 
-pub target_whole : (image : ProgramImage) (entries : List ℕ) (t : ℕ) → IsTarget image entries t → t % 4 ≡ 0
-target_whole image entries t (from, is, (i, stands, e)) =
+pub target_whole : (image : ProgramImage) (said : Said) (t : ℕ) → IsTarget image said t → t % 4 ≡ 0
+target_whole image said t (from, is, (i, stands, e)) =
     let w = target_is from t i e in
     let f = away_whole from w.0 stands.0.0 in
     let g = w.1 in
     omega (arith, f, g)
 
-pub target_low : (image : ProgramImage) (entries : List ℕ) (t : ℕ) → IsTarget image entries t → t < 2 ^ 32
-target_low image entries t (from, is, (i, stands, e)) =
+pub target_low : (image : ProgramImage) (said : Said) (t : ℕ) → IsTarget image said t → t < 2 ^ 32
+target_low image said t (from, is, (i, stands, e)) =
     let w = target_is from t i e in
     let f = away_low from w.0 in
     let g = w.1 in
     omega (arith, f, g)
 
-pub label_whole : (image : ProgramImage) (entries : List ℕ) (a : ℕ) → HasLabel image entries a → a % 4 ≡ 0
-label_whole image entries a (some, inl is) = target_whole image entries a is
-label_whole image entries a (some, inr is) = code_whole image entries a is.1
+pub label_whole : (image : ProgramImage) (said : Said) (a : ℕ) → HasLabel image said a → a % 4 ≡ 0
+label_whole image said a (some, inl is) = target_whole image said a is
+label_whole image said a (some, inr is) = code_whole image said a is.1
 
 -- names are the labels and the mark of the start that stand at addresses of a kind, each once
-pub record AreThose (image : ProgramImage) (entries : List ℕ) (names : List (List ℕ)) (Kind : ℕ → Type 0)
+pub record AreThose (image : ProgramImage) (said : Said) (names : List (List ℕ)) (Kind : ℕ → Type 0)
     (Start : Type 0) : Type 0 where
-  pub only : NameOnly (λ a. Kind a × IsSome (byte_at image a)) (Start × IsCode image entries image.start) names
+  pub only : NameOnly (λ a. Kind a × IsSome (byte_at image a)) (Start × IsCode image said image.start) names
   pub once : AreOnce [] names
-  pub labels : (a : ℕ) → Kind a → HasLabel image entries a → HasName (label_of a) names
-  pub start : Start → HasName (codes "_start") names ⊎ (IsCode image entries image.start → ⊥)
+  pub labels : (a : ℕ) → Kind a → HasLabel image said a → HasName (label_of a) names
+  pub start : Start → HasName (codes "_start") names ⊎ (IsCode image said image.start → ⊥)
 
 -- the same of another kind that holds of the same addresses
-pub those_as : (image : ProgramImage) (entries : List ℕ) (names : List (List ℕ)) (K L : ℕ → Type 0) (S T : Type 0)
+pub those_as : (image : ProgramImage) (said : Said) (names : List (List ℕ)) (K L : ℕ → Type 0) (S T : Type 0)
     → ((a : ℕ) → K a → L a) → ((a : ℕ) → L a → K a) → (S → T) → (T → S)
-    → AreThose image entries names K S → AreThose image entries names L T
-those_as image entries names K L S T to from on back t = record {
+    → AreThose image said names K S → AreThose image said names L T
+those_as image said names K L S T to from on back t = record {
   only = only_more _ _ _ _ names (λ a k. (to a k.0, k.1)) (λ s. (on s.0, s.1)) t.only;
   once = t.once;
   labels = λ a l. t.labels a (from a l);
@@ -102,11 +103,11 @@ those_as image entries names K L S T to from on back t = record {
 }
 
 -- those of two kinds
-pub those_both : (image : ProgramImage) (entries : List ℕ) (ns ms : List (List ℕ)) (K L : ℕ → Type 0) (S T : Type 0)
+pub those_both : (image : ProgramImage) (said : Said) (ns ms : List (List ℕ)) (K L : ℕ → Type 0) (S T : Type 0)
     → ((a : ℕ) → K a → L a → ⊥) → (S → T → ⊥)
-    → AreThose image entries ns K S → AreThose image entries ms L T
-    → AreThose image entries (ns ++ ms) (λ a. K a ⊎ L a) (S ⊎ T)
-those_both image entries ns ms K L S T apart starts t u = record {
+    → AreThose image said ns K S → AreThose image said ms L T
+    → AreThose image said (ns ++ ms) (λ a. K a ⊎ L a) (S ⊎ T)
+those_both image said ns ms K L S T apart starts t u = record {
   only =
       only_behind _ _ ns ms
       (only_more _ _ _ _ ns (λ a k. (inl k.0, k.1)) (λ s. (inl s.0, s.1)) t.only)
@@ -130,75 +131,75 @@ those_both image entries ns ms K L S T apart starts t u = record {
 }
 
 -- none
-pub those_none : (image : ProgramImage) (entries : List ℕ) → AreThose image entries [] (λ a. ⊥) ⊥
-those_none image entries =
+pub those_none : (image : ProgramImage) (said : Said) → AreThose image said [] (λ a. ⊥) ⊥
+those_none image said =
     record { only = tt; once = tt; labels = λ a h. absurd h; start = λ h. absurd h }
 
 -- statements from an address on have the branch at each address of a kind
-abbrev pub HasBranches : ProgramImage → List ℕ → (ℕ → Type 0) → ℕ → List Statement → Type 0
-HasBranches image entries Word at xs =
-    (a : ℕ) → Word a → IsCode image entries a → (i : Instr) (t : ℕ) → HoldsInstruction image a i → branch_target a i ≡ Some t
+abbrev pub HasBranches : ProgramImage → Said → (ℕ → Type 0) → ℕ → List Statement → Type 0
+HasBranches image said Word at xs =
+    (a : ℕ) → Word a → IsCode image said a → (i : Instr) (t : ℕ) → HoldsInstruction image a i → branch_target a i ≡ Some t
     → HasAt (IsBranchTo a i t) at xs
 
 -- lines as statements that give bytes, with the labels and the mark of the start that stand at addresses of a kind, and
 -- the branches at addresses of another
-pub record Told (image : ProgramImage) (entries : List ℕ) (number at : ℕ) (bytes : List ℕ) (lines : List (List ℕ))
+pub record Told (image : ProgramImage) (said : Said) (number at : ℕ) (bytes : List ℕ) (lines : List (List ℕ))
     (Kind Word : ℕ → Type 0) (Start : Type 0) : Type 0 where
-  pub listed : Listed (named image entries) number at bytes lines
-  pub those : AreThose image entries (names_in listed.statements) Kind Start
-  pub branches : HasBranches image entries Word at listed.statements
-  pub simple : AllAt (IsSimple image entries) at listed.statements
+  pub listed : Listed (named image said) number at bytes lines
+  pub those : AreThose image said (names_in listed.statements) Kind Start
+  pub branches : HasBranches image said Word at listed.statements
+  pub simple : AllAt (IsSimple image said) at listed.statements
 
-pub told_as : (image : ProgramImage) (entries : List ℕ) (number at : ℕ) (bytes : List ℕ) (lines : List (List ℕ))
+pub told_as : (image : ProgramImage) (said : Said) (number at : ℕ) (bytes : List ℕ) (lines : List (List ℕ))
     (K L V W : ℕ → Type 0) (S T : Type 0)
     → ((a : ℕ) → K a → L a) → ((a : ℕ) → L a → K a)
-    → ((a : ℕ) → IsCode image entries a → W a → V a) → (S → T) → (T → S)
-    → Told image entries number at bytes lines K V S → Told image entries number at bytes lines L W T
-told_as image entries number at bytes lines K L V W S T to from words on back t = record {
+    → ((a : ℕ) → IsCode image said a → W a → V a) → (S → T) → (T → S)
+    → Told image said number at bytes lines K V S → Told image said number at bytes lines L W T
+told_as image said number at bytes lines K L V W S T to from words on back t = record {
   listed = t.listed;
-  those = those_as image entries _ K L S T to from on back t.those;
+  those = those_as image said _ K L S T to from on back t.those;
   branches = λ a w is. t.branches a (words a is w) is;
   simple = t.simple;
 }
 
 -- one behind the other
-pub told_both : (image : ProgramImage) (entries : List ℕ) (number later at next : ℕ) (xs ys : List ℕ)
+pub told_both : (image : ProgramImage) (said : Said) (number later at next : ℕ) (xs ys : List ℕ)
     (ls ms : List (List ℕ)) (K L V W : ℕ → Type 0) (S T : Type 0)
     → later ≡ number + length ls → next ≡ at + length xs
     → ((a : ℕ) → K a → L a → ⊥) → (S → T → ⊥)
-    → Told image entries number at xs ls K V S → Told image entries later next ys ms L W T
-    → Told image entries number at (xs ++ ys) (ls ++ ms) (λ a. K a ⊎ L a) (λ a. V a ⊎ W a) (S ⊎ T)
-told_both image entries number later at next xs ys ls ms K L V W S T later_is next_is apart starts t u =
+    → Told image said number at xs ls K V S → Told image said later next ys ms L W T
+    → Told image said number at (xs ++ ys) (ls ++ ms) (λ a. K a ⊎ L a) (λ a. V a ⊎ W a) (S ⊎ T)
+told_both image said number later at next xs ys ls ms K L V W S T later_is next_is apart starts t u =
     let ss : List Statement = t.listed.statements in
     let us : List Statement = u.listed.statements in
     record {
       listed = record {
         statements = ss ++ us;
         stated = stated_behind number later ls ms ss us later_is t.listed.stated u.listed.stated;
-        datas = data_behind (named image entries) at next xs ys ss us next_is t.listed.datas u.listed.datas;
+        datas = data_behind (named image said) at next xs ys ss us next_is t.listed.datas u.listed.datas;
       };
       those =
-          subst (λ (ns : List (List ℕ)). AreThose image entries ns (λ a. K a ⊎ L a) (S ⊎ T))
+          subst (λ (ns : List (List ℕ)). AreThose image said ns (λ a. K a ⊎ L a) (S ⊎ T))
           (sym (flat_map-append names_of ss us))
-          (those_both image entries (names_in ss) (names_in us) K L S T apart starts t.those u.those);
+          (those_both image said (names_in ss) (names_in us) K L S T apart starts t.those u.those);
       branches = λ a w is i to stands e. elim w [
         | inl v ↦ has_in_front (IsBranchTo a i to) at ss us (t.branches a v is i to stands e)
         | inr v ↦
-            has_behind_data (IsBranchTo a i to) (named image entries) at next xs ss us next_is t.listed.datas
+            has_behind_data (IsBranchTo a i to) (named image said) at next xs ss us next_is t.listed.datas
             (u.branches a v is i to stands e)
       ];
       simple =
-          all_behind_data (IsSimple image entries) (named image entries) at next xs ss us next_is t.listed.datas
+          all_behind_data (IsSimple image said) (named image said) at next xs ss us next_is t.listed.datas
           t.simple
           u.simple;
     }
 
 -- nothing
-pub told_none : (image : ProgramImage) (entries : List ℕ) (number at : ℕ)
-    → Told image entries number at [] [] (λ a. ⊥) (λ a. ⊥) ⊥
-told_none image entries number at = record {
+pub told_none : (image : ProgramImage) (said : Said) (number at : ℕ)
+    → Told image said number at [] [] (λ a. ⊥) (λ a. ⊥) ⊥
+told_none image said number at = record {
   listed = record { statements = []; stated = tt; datas = no_data };
-  those = those_none image entries;
+  those = those_none image said;
   branches = λ a h. absurd h;
   simple = tt;
 }
@@ -229,10 +230,10 @@ listed_mark Named number at name good named =
     }
 
 -- the line of a label, where there is one
-pub told_label : (image : ProgramImage) (entries : List ℕ) (number at : ℕ) (lines : List (List ℕ)) → at < 2 ^ 32
-    → IsLabelled image entries at lines → Told image entries number at [] lines (λ a. a ≡ at) (λ a. ⊥) ⊥
-told_label image entries number at _ low (so has) = record {
-  listed = listed_mark (named image entries) number at (label_of at) (label_symbol at) (low, inr (refl, inl has));
+pub told_label : (image : ProgramImage) (said : Said) (number at : ℕ) (lines : List (List ℕ)) → at < 2 ^ 32
+    → IsLabelled image said at lines → Told image said number at [] lines (λ a. a ≡ at) (λ a. ⊥) ⊥
+told_label image said number at _ low (so has) = record {
+  listed = listed_mark (named image said) number at (label_of at) (label_symbol at) (low, inr (refl, inl has));
   those = record {
     only = (inr (at, refl, low, (refl, has.0)), tt);
     once = (tt, tt);
@@ -242,12 +243,12 @@ told_label image entries number at _ low (so has) = record {
   branches = λ a h. absurd h;
   simple = (inl tt, tt);
 }
-told_label image entries number at _ low (not_so none) = record {
+told_label image said number at _ low (not_so none) = record {
   listed = record { statements = []; stated = tt; datas = no_data };
   those = record {
     only = tt;
     once = tt;
-    labels = λ a is h. absurd (none (subst (HasLabel image entries) is h));
+    labels = λ a is h. absurd (none (subst (HasLabel image said) is h));
     start = λ h. absurd h;
   };
   branches = λ a h. absurd h;
@@ -255,13 +256,13 @@ told_label image entries number at _ low (not_so none) = record {
 }
 
 -- the line that marks the start, where it is the address of a word of code
-pub told_start : (image : ProgramImage) (entries : List ℕ) (number at : ℕ) (lines : List (List ℕ)) → at < 2 ^ 32
-    → IsCode image entries at → IsStartMarked image at lines
-    → Told image entries number at [] lines (λ a. ⊥) (λ a. ⊥) (image.start ≡ at)
-told_start image entries number at _ low is (so here) = record {
-  listed = listed_mark (named image entries) number at (codes "_start") start_symbol (low, inl (refl, here));
+pub told_start : (image : ProgramImage) (said : Said) (number at : ℕ) (lines : List (List ℕ)) → at < 2 ^ 32
+    → IsCode image said at → IsStartMarked image at lines
+    → Told image said number at [] lines (λ a. ⊥) (λ a. ⊥) (image.start ≡ at)
+told_start image said number at _ low is (so here) = record {
+  listed = listed_mark (named image said) number at (codes "_start") start_symbol (low, inl (refl, here));
   those = record {
-    only = (inl (refl, (sym here, subst (IsCode image entries) here is)), tt);
+    only = (inl (refl, (sym here, subst (IsCode image said) here is)), tt);
     once = (tt, tt);
     labels = λ a h. absurd h;
     start = λ same. inl (inl refl);
@@ -269,7 +270,7 @@ told_start image entries number at _ low is (so here) = record {
   branches = λ a h. absurd h;
   simple = (inl tt, tt);
 }
-told_start image entries number at _ low is (not_so none) = record {
+told_start image said number at _ low is (not_so none) = record {
   listed = record { statements = []; stated = tt; datas = no_data };
   those = record {
     only = tt;
@@ -282,13 +283,13 @@ told_start image entries number at _ low is (not_so none) = record {
 }
 
 -- statements that name nothing, where no label and no start stand
-told_unnamed : (image : ProgramImage) (entries : List ℕ) (number at : ℕ) (bytes : List ℕ) (lines : List (List ℕ))
-    (K W : ℕ → Type 0) (S : Type 0) → ((a : ℕ) → K a → HasLabel image entries a → ⊥)
-    → (S → IsCode image entries image.start → ⊥)
-    → (l : ListedData (named image entries) number at bytes lines)
-    → HasBranches image entries W at l.listed.statements → AllAt (IsSimple image entries) at l.listed.statements
-    → Told image entries number at bytes lines K W S
-told_unnamed image entries number at bytes lines K W S none never l branches simple = record {
+told_unnamed : (image : ProgramImage) (said : Said) (number at : ℕ) (bytes : List ℕ) (lines : List (List ℕ))
+    (K W : ℕ → Type 0) (S : Type 0) → ((a : ℕ) → K a → HasLabel image said a → ⊥)
+    → (S → IsCode image said image.start → ⊥)
+    → (l : ListedData (named image said) number at bytes lines)
+    → HasBranches image said W at l.listed.statements → AllAt (IsSimple image said) at l.listed.statements
+    → Told image said number at bytes lines K W S
+told_unnamed image said number at bytes lines K W S none never l branches simple = record {
   listed = l.listed;
   those = record {
     only = subst (NameOnly _ _) (sym l.unnamed) tt;
@@ -320,13 +321,13 @@ gives_branch Named number at t i j kind name col stands named near again = recor
 }
 
 -- what a target is named
-pub target_named : (image : ProgramImage) (entries : List ℕ) (t : ℕ) → IsTarget image entries t
-    → named image entries (label_of t) t
-target_named image entries t is = by (byte_at image t) refl
+pub target_named : (image : ProgramImage) (said : Said) (t : ℕ) → IsTarget image said t
+    → named image said (label_of t) t
+target_named image said t is = by (byte_at image t) refl
   where
-    by : (o : Option ℕ) → byte_at image t ≡ o → named image entries (label_of t) t
-    by (Some b) e = (target_low image entries t is, inr (refl, inl (subst IsSome (sym e) refl, inl is)))
-    by None e = (target_low image entries t is, inr (refl, inr (is, e)))
+    by : (o : Option ℕ) → byte_at image t ≡ o → named image said (label_of t) t
+    by (Some b) e = (target_low image said t is, inr (refl, inl (subst IsSome (sym e) refl, inl is)))
+    by None e = (target_low image said t is, inr (refl, inr (is, e)))
 
 abbrev listed_line : (Named : Names) (number at : ℕ) (given line : List ℕ) (x : Statement) → SpokenAs number line x
     → Gives Named at x given → names_of x ≡ [] → ListedData Named number at given (line ∷ [])
@@ -340,20 +341,20 @@ listed_line Named number at given line x said gives unnamed = record {
 }
 
 -- the line of an instruction, and the branch that it may be
-record ListedInstr (image : ProgramImage) (entries : List ℕ) (number at : ℕ) (i : Instr) : Type 0 where
-  line : ListedData (named image entries) number at (to_be_bytes w32 (word_of i)) (code_text at i ∷ [])
+record ListedInstr (image : ProgramImage) (said : Said) (number at : ℕ) (i : Instr) : Type 0 where
+  line : ListedData (named image said) number at (to_be_bytes w32 (word_of i)) (code_text at i ∷ [])
   branch : (t : ℕ) → branch_target at i ≡ Some t → HasAt (IsBranchTo at i t) at line.listed.statements
-  simple : AllAt (IsSimple image entries) at line.listed.statements
+  simple : AllAt (IsSimple image said) at line.listed.statements
 
-branch_line : (image : ProgramImage) (entries : List ℕ) (number at t : ℕ) (i j : Instr) (kind : Kind) (col : ℕ)
-    → IsCode image entries at → HoldsInstruction image at i
+branch_line : (image : ProgramImage) (said : Said) (number at t : ℕ) (i j : Instr) (kind : Kind) (col : ℕ)
+    → IsCode image said at → HoldsInstruction image at i
     → SpokenAs number (code_text at i) (unlabelled number (body.Code j (Some (use_of kind (label_of t) col))))
-    → Gives (named image entries) at (unlabelled number (body.Code j (Some (use_of kind (label_of t) col))))
+    → Gives (named image said) at (unlabelled number (body.Code j (Some (use_of kind (label_of t) col))))
     (to_be_bytes w32 (word_of i))
     → branch_target at i ≡ Some t → j ≡ counting (pos 0) i → kind ≡ branch_kind i
-    → ListedInstr image entries number at i
-branch_line image entries number at t i j kind col code holds said gives to is kind_is = record {
-  line = listed_line (named image entries) number at _ _ _ said gives refl;
+    → ListedInstr image said number at i
+branch_line image said number at t i j kind col code holds says gives to is kind_is = record {
+  line = listed_line (named image said) number at _ _ _ says gives refl;
   branch = λ u e.
       let same : t ≡ u = some_is t u (sym to ∙ e) in
       inl (
@@ -384,46 +385,46 @@ branch_line image entries number at t i j kind col code holds said gives to is k
   );
 }
 
-listed_instr : (image : ProgramImage) (entries : List ℕ) (number at : ℕ) (i : Instr) → at < 2 ^ 32 → at % 4 ≡ 0
-    → IsValid i → IsCode image entries at → HoldsInstruction image at i
-    → ((t : ℕ) → branch_target at i ≡ Some t → named image entries (label_of t) t)
-    → ListedInstr image entries number at i
-listed_instr image entries number at (instr.Branch link delayed words) low stands valid code holds names =
+listed_instr : (image : ProgramImage) (said : Said) (number at : ℕ) (i : Instr) → at < 2 ^ 32 → at % 4 ≡ 0
+    → IsValid i → IsCode image said at → HoldsInstruction image at i
+    → ((t : ℕ) → branch_target at i ≡ Some t → named image said (label_of t) t)
+    → ListedInstr image said number at i
+listed_instr image said number at (instr.Branch link delayed words) low stands valid code holds names =
     let t : ℕ = words_away at words in
     let s = said_branch_to number link delayed words (label_of t) (label_symbol t) in
-    branch_line image entries number at t _ _ _ s.col code holds (spoken number _ _ s.said)
-    (gives_branch (named image entries) number at t (instr.Branch link delayed words) _ Pc26 (label_of t) s.col stands
+    branch_line image said number at t _ _ _ s.col code holds (spoken number _ _ s.said)
+    (gives_branch (named image said) number at t (instr.Branch link delayed words) _ Pc26 (label_of t) s.col stands
     (names t refl) (near_back words at low valid)
     (λ value is.
     ap (λ (v : ℕ). resolved (λ name. v) at (instr.Branch link delayed (pos 0)) (Some (use_of Pc26 (label_of t) s.col))) is
     ∙ ap (λ (w : ℤ). instr.Branch link delayed w) (words_back words at low valid)))
     refl refl refl
-listed_instr image entries number at (instr.BranchBit set delayed bit s1 words) low stands valid code holds names =
+listed_instr image said number at (instr.BranchBit set delayed bit s1 words) low stands valid code holds names =
     let t : ℕ = words_away at words in
     let s = said_branch_bit_to number set delayed bit s1 words (label_of t) valid.0 (label_symbol t) in
-    branch_line image entries number at t _ _ _ s.col code holds (spoken number _ _ s.said)
-    (gives_branch (named image entries) number at t (instr.BranchBit set delayed bit s1 words) _ Pc16 (label_of t) s.col
+    branch_line image said number at t _ _ _ s.col code holds (spoken number _ _ s.said)
+    (gives_branch (named image said) number at t (instr.BranchBit set delayed bit s1 words) _ Pc16 (label_of t) s.col
     stands (names t refl) (near16_back words at low valid.1)
     (λ value is.
     ap (λ (v : ℕ). resolved (λ name. v) at (instr.BranchBit set delayed bit s1 (pos 0))
     (Some (use_of Pc16 (label_of t) s.col))) is
     ∙ ap (λ (w : ℤ). instr.BranchBit set delayed bit s1 w) (words_back words at low (wider words valid.1))))
     refl refl refl
-listed_instr image entries number at (instr.BranchCond delayed mask s1 words) low stands valid code holds names =
+listed_instr image said number at (instr.BranchCond delayed mask s1 words) low stands valid code holds names =
     let t : ℕ = words_away at words in
     let s = said_branch_cond_to number delayed mask s1 words (label_of t) (condition_part mask valid.0) (label_symbol t) in
-    branch_line image entries number at t _ _ _ s.col code holds (spoken number _ _ s.said)
-    (gives_branch (named image entries) number at t (instr.BranchCond delayed mask s1 words) _ Pc16 (label_of t) s.col
+    branch_line image said number at t _ _ _ s.col code holds (spoken number _ _ s.said)
+    (gives_branch (named image said) number at t (instr.BranchCond delayed mask s1 words) _ Pc16 (label_of t) s.col
     stands (names t refl) (near16_back words at low valid.1)
     (λ value is.
     ap (λ (v : ℕ). resolved (λ name. v) at (instr.BranchCond delayed mask s1 (pos 0))
     (Some (use_of Pc16 (label_of t) s.col))) is
     ∙ ap (λ (w : ℤ). instr.BranchCond delayed mask s1 w) (words_back words at low (wider words valid.1))))
     refl refl refl
-listed_instr image entries number at i low stands valid code holds names =
+listed_instr image said number at i low stands valid code holds names =
     record {
-      line = listed_line (named image entries) number at _ _ _ (spoken number _ _ (said_instr number i valid))
-          (gives_instr (named image entries) number at i stands) (said_unnamed number i);
+      line = listed_line (named image said) number at _ _ _ (spoken number _ _ (said_instr number i valid))
+          (gives_instr (named image said) number at i stands) (said_unnamed number i);
       branch = λ t e. absurd cc;
       simple = (inl (said_plain i), tt);
     }
@@ -513,22 +514,22 @@ or_first at m n a h =
     ]
 
 -- words of code
-pub told_code : (image : ProgramImage) (entries : List ℕ) (number at n : ℕ) (bytes : List ℕ) (lines : List (List ℕ))
+pub told_code : (image : ProgramImage) (said : Said) (number at n : ℕ) (bytes : List ℕ) (lines : List (List ℕ))
     → at % 4 ≡ 0 → at + 4 * n ≤ 2 ^ 32 → length bytes ≡ 4 * n → HasBytes image at bytes
-    → ((k : ℕ) → k < n → IsCode image entries (at + 4 * k))
-    → AreCodeLines (λ _. []) image entries at n lines
-    → Told image entries number at bytes lines (Among at (4 * n)) (Among at (4 * n)) (Among at (4 * n) image.start)
-told_code image entries number at zero [] _ whole low size has are no_word =
-    told_as image entries number at [] [] (λ a. ⊥) (Among at 0) (λ a. ⊥) (Among at 0) ⊥ (Among at 0 image.start)
+    → ((k : ℕ) → k < n → IsCode image said (at + 4 * k))
+    → AreCodeLines (λ _. []) image said at n lines
+    → Told image said number at bytes lines (Among at (4 * n)) (Among at (4 * n)) (Among at (4 * n) image.start)
+told_code image said number at zero [] _ whole low size has are no_word =
+    told_as image said number at [] [] (λ a. ⊥) (Among at 0) (λ a. ⊥) (Among at 0) ⊥ (Among at 0 image.start)
     (λ a h. absurd h) (λ a h. absurd (let x = h.0 in let y = h.1 in omega (arith, x, y)))
     (λ a is h. absurd (let x = h.0 in let y = h.1 in omega (arith, x, y)))
     (λ h. absurd h) (λ h. absurd (let x = h.0 in let y = h.1 in omega (arith, x, y)))
-    (told_none image entries number at)
-told_code image entries number at zero (b ∷ bytes) _ whole low size has are no_word = absurd (omega (arith, size))
-told_code image entries number at (suc n) bytes _ whole low size has are
+    (told_none image said number at)
+told_code image said number at zero (b ∷ bytes) _ whole low size has are no_word = absurd (omega (arith, size))
+told_code image said number at (suc n) bytes _ whole low size has are
     (word {label = label} {start = start} {lines = lines} i stands is_label is_start rest) =
-    let here : IsCode image entries at =
-    subst (IsCode image entries) (let e : at + 4 * 0 ≡ at = omega arith in e) (are 0 (omega arith)) in
+    let here : IsCode image said at =
+    subst (IsCode image said) (let e : at + 4 * 0 ≡ at = omega arith in e) (are 0 (omega arith)) in
     let long : 4 ≤ length bytes = omega (arith, size) in
     let given : List ℕ = to_be_bytes w32 (word_of i) in
     let split : bytes ≡ given ++ drop 4 bytes =
@@ -537,20 +538,20 @@ told_code image entries number at (suc n) bytes _ whole low size has are
     let line2 : ℕ = number + length label in
     let line3 : ℕ = line2 + length start in
     let fits : at < 2 ^ 32 = omega (arith, low) in
-    let others : Told image entries (line3 + 1) (at + 4) (drop 4 bytes) lines (Among (at + 4) (4 * n))
+    let others : Told image said (line3 + 1) (at + 4) (drop 4 bytes) lines (Among (at + 4) (4 * n))
     (Among (at + 4) (4 * n)) (Among (at + 4) (4 * n) image.start) =
-    told_code image entries (line3 + 1) (at + 4) n (drop 4 bytes) lines (omega (arith, whole)) (omega (arith, low))
+    told_code image said (line3 + 1) (at + 4) n (drop 4 bytes) lines (omega (arith, whole)) (omega (arith, low))
     (omega (arith, size, left)) (has_behind image at 4 bytes long has)
-    (λ k h. subst (IsCode image entries) (let e : at + 4 * (k + 1) ≡ at + 4 + 4 * k = omega arith in e)
+    (λ k h. subst (IsCode image said) (let e : at + 4 * (k + 1) ≡ at + 4 + 4 * k = omega arith in e)
     (are (k + 1) (omega (arith, h)))) rest in
-    let instruction : ListedInstr image entries line3 at i =
-    listed_instr image entries line3 at i fits whole stands.0.1.2.0 here stands
-    (λ t e. target_named image entries t (at, here, (i, stands, e))) in
-    let own : Told image entries line3 at given (code_text at i ∷ []) (Behind at 4) (λ a. a ≡ at) (Behind at 4 image.start) =
-    told_unnamed image entries line3 at given (code_text at i ∷ []) (Behind at 4) (λ a. a ≡ at) (Behind at 4 image.start)
+    let instruction : ListedInstr image said line3 at i =
+    listed_instr image said line3 at i fits whole stands.0.1.2.0 here stands
+    (λ t e. target_named image said t (at, here, (i, stands, e))) in
+    let own : Told image said line3 at given (code_text at i ∷ []) (Behind at 4) (λ a. a ≡ at) (Behind at 4 image.start) =
+    told_unnamed image said line3 at given (code_text at i ∷ []) (Behind at 4) (λ a. a ≡ at) (Behind at 4 image.start)
     (λ a h has_one.
-    let e = label_whole image entries a has_one in let x = h.0 in let y = h.1 in absurd (omega (arith, e, x, y, whole)))
-    (λ h is. let e = code_whole image entries image.start is in let x = h.0 in let y = h.1 in
+    let e = label_whole image said a has_one in let x = h.0 in let y = h.1 in absurd (omega (arith, e, x, y, whole)))
+    (λ h is. let e = code_whole image said image.start is in let x = h.0 in let y = h.1 in
     absurd (omega (arith, e, x, y, whole)))
     instruction.line
     (λ a same is k t stands_there e.
@@ -560,28 +561,28 @@ told_code image entries number at (suc n) bytes _ whole low size has are
     subst (λ (b : ℕ). HasAt (IsBranchTo b k t) at instruction.line.listed.statements) (sym same)
     (subst (λ (l : Instr). HasAt (IsBranchTo at l t) at instruction.line.listed.statements) again
     (instruction.branch t to))) instruction.simple in
-    let last : Told image entries line3 at (given ++ drop 4 bytes) (code_text at i ∷ lines)
+    let last : Told image said line3 at (given ++ drop 4 bytes) (code_text at i ∷ lines)
     (λ a. Behind at 4 a ⊎ Among (at + 4) (4 * n) a) (λ a. (a ≡ at) ⊎ Among (at + 4) (4 * n) a)
     (Behind at 4 image.start ⊎ Among (at + 4) (4 * n) image.start) =
-    told_both image entries line3 (line3 + 1) at (at + 4) given (drop 4 bytes) (code_text at i ∷ []) lines (Behind at 4)
+    told_both image said line3 (line3 + 1) at (at + 4) given (drop 4 bytes) (code_text at i ∷ []) lines (Behind at 4)
     (Among (at + 4) (4 * n)) (λ a. a ≡ at) (Among (at + 4) (4 * n)) _ _ refl refl
     (λ a h k. let x = h.1 in let y = k.0 in absurd (omega (arith, x, y)))
     (λ h k. let x = h.1 in let y = k.0 in absurd (omega (arith, x, y))) own others in
-    let middle : Told image entries line2 at (given ++ drop 4 bytes) (start ++ code_text at i ∷ lines)
+    let middle : Told image said line2 at (given ++ drop 4 bytes) (start ++ code_text at i ∷ lines)
     (λ a. ⊥ ⊎ (Behind at 4 a ⊎ Among (at + 4) (4 * n) a)) (λ a. ⊥ ⊎ ((a ≡ at) ⊎ Among (at + 4) (4 * n) a))
     ((image.start ≡ at) ⊎ (Behind at 4 image.start ⊎ Among (at + 4) (4 * n) image.start)) =
-    told_both image entries line2 line3 at at [] (given ++ drop 4 bytes) start (code_text at i ∷ lines) (λ a. ⊥) _ (λ a. ⊥) _ _ _
+    told_both image said line2 line3 at at [] (given ++ drop 4 bytes) start (code_text at i ∷ lines) (λ a. ⊥) _ (λ a. ⊥) _ _ _
     refl (omega arith) (λ a h k. h)
     (λ e k. elim k [
       | inl h ↦ let x = h.0 in absurd (omega (arith, e, x))
       | inr h ↦ let x = h.0 in absurd (omega (arith, e, x))
     ])
-    (told_start image entries line2 at start fits here is_start) last in
-    let all : Told image entries number at (given ++ drop 4 bytes) (label ++ (start ++ code_text at i ∷ lines))
+    (told_start image said line2 at start fits here is_start) last in
+    let all : Told image said number at (given ++ drop 4 bytes) (label ++ (start ++ code_text at i ∷ lines))
     (λ a. (a ≡ at) ⊎ (⊥ ⊎ (Behind at 4 a ⊎ Among (at + 4) (4 * n) a)))
     (λ a. ⊥ ⊎ (⊥ ⊎ ((a ≡ at) ⊎ Among (at + 4) (4 * n) a)))
     (⊥ ⊎ ((image.start ≡ at) ⊎ (Behind at 4 image.start ⊎ Among (at + 4) (4 * n) image.start))) =
-    told_both image entries number line2 at at [] (given ++ drop 4 bytes) label (start ++ code_text at i ∷ lines)
+    told_both image said number line2 at at [] (given ++ drop 4 bytes) label (start ++ code_text at i ∷ lines)
     (λ a. a ≡ at) _ (λ a. ⊥) _ ⊥ _ refl (omega arith)
     (λ a e k. elim k [
       | inl h ↦ h
@@ -590,13 +591,13 @@ told_code image entries number at (suc n) bytes _ whole low size has are
         | inr h ↦ let x = h.0 in absurd (omega (arith, e, x))
       ]
     ])
-    (λ h k. h) (told_label image entries number at label fits is_label) middle in
+    (λ h k. h) (told_label image said number at label fits is_label) middle in
     let sum : 4 + 4 * n ≡ 4 * suc n = omega arith in
-    subst (λ (k : ℕ). Told image entries number at bytes (label ++ (start ++ code_text at i ∷ lines)) (Among at k)
+    subst (λ (k : ℕ). Told image said number at bytes (label ++ (start ++ code_text at i ∷ lines)) (Among at k)
     (Among at k) (Among at k image.start)) sum
-    (subst (λ (bs : List ℕ). Told image entries number at bs (label ++ (start ++ code_text at i ∷ lines))
+    (subst (λ (bs : List ℕ). Told image said number at bs (label ++ (start ++ code_text at i ∷ lines))
     (Among at (4 + 4 * n)) (Among at (4 + 4 * n)) (Among at (4 + 4 * n) image.start)) (sym split)
-    (told_as image entries number at (given ++ drop 4 bytes) _ _ (Among at (4 + 4 * n)) _ (Among at (4 + 4 * n)) _
+    (told_as image said number at (given ++ drop 4 bytes) _ _ (Among at (4 + 4 * n)) _ (Among at (4 + 4 * n)) _
     (Among at (4 + 4 * n) image.start)
     (λ a h. first_or at 4 (4 * n) a (omega arith) (elim h [
       | inl e ↦ inl e
@@ -613,7 +614,7 @@ told_code image entries number at (suc n) bytes _ whole low size has are
       | inl e ↦ inr (inr (inl e))
       | inr g ↦ elim g [
         | inl f ↦
-            let e = code_whole image entries a is in
+            let e = code_whole image said a is in
             let x = f.0 in
             let y = f.1 in
             absurd (omega (arith, e, x, y, whole))
@@ -628,19 +629,19 @@ told_code image entries number at (suc n) bytes _ whole low size has are
     all))
 
 -- bytes that are no code
-pub told_loose : (image : ProgramImage) (entries : List ℕ) (number at : ℕ) (bytes : List ℕ) (lines : List (List ℕ))
+pub told_loose : (image : ProgramImage) (said : Said) (number at : ℕ) (bytes : List ℕ) (lines : List (List ℕ))
     → at + length bytes ≤ 2 ^ 32 → length bytes < 2 ^ 32 → AreBytes bytes
-    → ((k : ℕ) → k < length bytes → ¬ InCode image entries (at + k))
-    → AreLooseLines image entries at bytes lines
-    → Told image entries number at bytes lines (Among at (length bytes)) (Among at (length bytes))
+    → ((k : ℕ) → k < length bytes → ¬ InCode image said (at + k))
+    → AreLooseLines image said at bytes lines
+    → Told image said number at bytes lines (Among at (length bytes)) (Among at (length bytes))
     (Among at (length bytes) image.start)
-told_loose image entries number at _ _ low few small none no_byte =
-    told_as image entries number at [] [] (λ a. ⊥) (Among at 0) (λ a. ⊥) (Among at 0) ⊥ (Among at 0 image.start)
+told_loose image said number at _ _ low few small none no_byte =
+    told_as image said number at [] [] (λ a. ⊥) (Among at 0) (λ a. ⊥) (Among at 0) ⊥ (Among at 0 image.start)
     (λ a h. absurd h) (λ a h. absurd (let x = h.0 in let y = h.1 in omega (arith, x, y)))
     (λ a is h. absurd (let x = h.0 in let y = h.1 in omega (arith, x, y)))
     (λ h. absurd h) (λ h. absurd (let x = h.0 in let y = h.1 in omega (arith, x, y)))
-    (told_none image entries number at)
-told_loose image entries number at bytes _ low few small none
+    (told_none image said number at)
+told_loose image said number at bytes _ low few small none
     (stretch {label = label} {own = own} {lines = lines} n is is_label datas rest) =
     let some = is.some in
     let within = is.within in
@@ -649,58 +650,58 @@ told_loose image entries number at bytes _ low few small none
     let line2 : ℕ = number + length label in
     let line3 : ℕ = line2 + length own in
     let fits : at < 2 ^ 32 = omega (arith, low, some, within) in
-    let no_code_within : (a : ℕ) → Among at n a → IsCode image entries a → ⊥ = λ a h code.
+    let no_code_within : (a : ℕ) → Among at n a → IsCode image said a → ⊥ = λ a h code.
     let x = h.0 in
     let y = h.1 in
-    let whole = code_whole image entries a code in
+    let whole = code_whole image said a code in
     let there : word_address (at + (a - at)) ≡ a = omega (arith, x, whole) in
-    none (a - at) (omega (arith, x, y, within)) (subst (IsCode image entries) (sym there) code) in
-    let not_start : Among at n image.start → IsCode image entries image.start → ⊥ = no_code_within image.start in
-    let others : Told image entries line3 (at + n) (drop n bytes) lines (Among (at + n) (length bytes - n))
+    none (a - at) (omega (arith, x, y, within)) (subst (IsCode image said) (sym there) code) in
+    let not_start : Among at n image.start → IsCode image said image.start → ⊥ = no_code_within image.start in
+    let others : Told image said line3 (at + n) (drop n bytes) lines (Among (at + n) (length bytes - n))
     (Among (at + n) (length bytes - n)) (Among (at + n) (length bytes - n) image.start) =
-    subst (λ (k : ℕ). Told image entries line3 (at + n) (drop n bytes) lines (Among (at + n) k) (Among (at + n) k)
+    subst (λ (k : ℕ). Told image said line3 (at + n) (drop n bytes) lines (Among (at + n) k) (Among (at + n) k)
     (Among (at + n) k image.start)) left
-    (told_loose image entries line3 (at + n) (drop n bytes) lines (omega (arith, left, low, within))
+    (told_loose image said line3 (at + n) (drop n bytes) lines (omega (arith, left, low, within))
     (omega (arith, left, few)) (bytes_dropped n bytes small)
-    (λ k h. subst (λ (a : ℕ). ¬ InCode image entries a) (let e : at + (n + k) ≡ at + n + k = omega arith in e)
+    (λ k h. subst (λ (a : ℕ). ¬ InCode image said a) (let e : at + (n + k) ≡ at + n + k = omega arith in e)
     (none (n + k) (omega (arith, left, h, within)))) rest) in
-    let items : ListedPlain (named image entries) line2 at (take n bytes) own =
-    listed_data (named image entries) line2 at (take n bytes) own (omega (arith, size, within, few))
+    let items : ListedPlain (named image said) line2 at (take n bytes) own =
+    listed_data (named image said) line2 at (take n bytes) own (omega (arith, size, within, few))
     (bytes_taken n bytes small) datas in
-    let first : Told image entries line2 at (take n bytes) own (Behind at n) (λ a. ⊥) (Among at n image.start) =
-    told_unnamed image entries line2 at (take n bytes) own (Behind at n) (λ a. ⊥) (Among at n image.start)
+    let first : Told image said line2 at (take n bytes) own (Behind at n) (λ a. ⊥) (Among at n image.start) =
+    told_unnamed image said line2 at (take n bytes) own (Behind at n) (λ a. ⊥) (Among at n image.start)
     (λ a h has_one.
     let x = h.0 in
     let y = h.1 in
     let there : at + (a - at) ≡ a = omega (arith, x) in
-    is.plain (a - at) (omega (arith, x)) (omega (arith, x, y)) (subst (HasLabel image entries) (sym there) has_one))
+    is.plain (a - at) (omega (arith, x)) (omega (arith, x, y)) (subst (HasLabel image said) (sym there) has_one))
     not_start
     items.own
-    (λ a h. absurd h) (all_plain image entries at items.own.listed.statements items.plain) in
-    let last : Told image entries line2 at (take n bytes ++ drop n bytes) (own ++ lines)
+    (λ a h. absurd h) (all_plain image said at items.own.listed.statements items.plain) in
+    let last : Told image said line2 at (take n bytes ++ drop n bytes) (own ++ lines)
     (λ a. Behind at n a ⊎ Among (at + n) (length bytes - n) a) (λ a. ⊥ ⊎ Among (at + n) (length bytes - n) a)
     (Among at n image.start ⊎ Among (at + n) (length bytes - n) image.start) =
-    told_both image entries line2 line3 at (at + n) (take n bytes) (drop n bytes) own lines (Behind at n)
+    told_both image said line2 line3 at (at + n) (take n bytes) (drop n bytes) own lines (Behind at n)
     (Among (at + n) (length bytes - n)) (λ a. ⊥) (Among (at + n) (length bytes - n)) _ _ refl (omega (arith, size))
     (λ a h k. let x = h.1 in let y = k.0 in absurd (omega (arith, x, y)))
     (λ h k. let x = h.1 in let y = k.0 in absurd (omega (arith, x, y))) first others in
-    let all : Told image entries number at (take n bytes ++ drop n bytes) (label ++ (own ++ lines))
+    let all : Told image said number at (take n bytes ++ drop n bytes) (label ++ (own ++ lines))
     (λ a. (a ≡ at) ⊎ (Behind at n a ⊎ Among (at + n) (length bytes - n) a))
     (λ a. ⊥ ⊎ (⊥ ⊎ Among (at + n) (length bytes - n) a))
     (⊥ ⊎ (Among at n image.start ⊎ Among (at + n) (length bytes - n) image.start)) =
-    told_both image entries number line2 at at [] (take n bytes ++ drop n bytes) label (own ++ lines) (λ a. a ≡ at) _ (λ a. ⊥) _ ⊥ _
+    told_both image said number line2 at at [] (take n bytes ++ drop n bytes) label (own ++ lines) (λ a. a ≡ at) _ (λ a. ⊥) _ ⊥ _
     refl (omega arith)
     (λ a e k. elim k [
       | inl h ↦ let x = h.0 in absurd (omega (arith, e, x))
       | inr h ↦ let x = h.0 in absurd (omega (arith, e, x, some))
     ])
-    (λ h k. h) (told_label image entries number at label fits is_label) last in
+    (λ h k. h) (told_label image said number at label fits is_label) last in
     let sum : n + (length bytes - n) ≡ length bytes = omega (arith, within) in
-    subst (λ (k : ℕ). Told image entries number at bytes (label ++ (own ++ lines)) (Among at k) (Among at k)
+    subst (λ (k : ℕ). Told image said number at bytes (label ++ (own ++ lines)) (Among at k) (Among at k)
     (Among at k image.start)) sum
-    (subst (λ (bs : List ℕ). Told image entries number at bs (label ++ (own ++ lines)) (Among at (n + (length bytes - n)))
+    (subst (λ (bs : List ℕ). Told image said number at bs (label ++ (own ++ lines)) (Among at (n + (length bytes - n)))
     (Among at (n + (length bytes - n))) (Among at (n + (length bytes - n)) image.start)) (take-append-drop n bytes)
-    (told_as image entries number at (take n bytes ++ drop n bytes) _ _ (Among at (n + (length bytes - n))) _
+    (told_as image said number at (take n bytes ++ drop n bytes) _ _ (Among at (n + (length bytes - n))) _
     (Among at (n + (length bytes - n))) _ (Among at (n + (length bytes - n)) image.start)
     (λ a h. first_or at n (length bytes - n) a some h)
     (λ a h. or_first at n (length bytes - n) a h)

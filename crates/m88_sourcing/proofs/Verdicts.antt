@@ -16,6 +16,7 @@ use Rattle.m88_sourcing.specs.Answer.{AsAsked, Sources, SourcesAccepted, Sources
 use Rattle.m88_sourcing.specs.Inputs.{IsAcceptedIn, IsImageIn, IsRefusedIn, binary_refusal}
 use Rattle.m88_sourcing.specs.Inside.Replies.{SourcesAs}
 use Rattle.m88_sourcing.specs.Request.{Asks, Request}
+use Rattle.m88_sourcing.specs.Said.{entering}
 use Rattle.m88_sourcing.specs.Source.{IsSource}
 use Rattle.m88_sourcing.proofs.OneSource.{one_source}
 
@@ -67,8 +68,8 @@ one_image (Some at) input i j a b =
 
 pub one_answer : (request : Request) (input a b : List ℕ) → Sources request input a → Sources request input b → a ≡ b
 one_answer request input a b (inl x) (inl y) =
-    one_source (λ _. []) x.image request.entries a b x.is_source
-    (subst (λ (i : ProgramImage). IsSource i request.entries b)
+    one_source (λ _. []) x.image (entering request.entries) a b x.is_source
+    (subst (λ (i : ProgramImage). IsSource i (entering request.entries) b)
     (one_image request.at input y.image x.image y.is_image x.is_image) y.is_source)
 one_answer request input a b (inl x) (inr y) =
     absurd (not_both request.at input y.refusal (accepted_in request.at input x.image x.is_image) y.refused)

@@ -67,7 +67,7 @@ named_more image old new at t i Had Has Other holds code before last = (
 pub names_more : (image : ProgramImage) (old : Outline) (code : Words) (new : Outline) (at : ℕ) (i : Instr)
     → HoldsInstruction image at i → NamesTargets image old
     → ((a : ℕ) → IsTrue (contains code a) ↔ (IsTrue (contains old.code a) ⊎ (a ≡ at)))
-    → Notes image (λ a. branch_target at i ≡ Some a) (record { code = code; labels = old.labels; far = old.far }) new
+    → Notes image (λ a. branch_target at i ≡ Some a) (record old { code = code }) new
     → NamesTargets image new
 names_more image old code new at i holds names more notes =
     let now : (a : ℕ) → IsTrue (contains new.code a) ↔ (IsTrue (contains old.code a) ⊎ (a ≡ at)) =
@@ -150,10 +150,10 @@ notes_as image old new at t i to notes =
 -- the targets of the same words
 pub names_same : (image : ProgramImage) (old : Outline) (code : Words)
     → ((a : ℕ) → IsTrue (contains code a) ↔ IsTrue (contains old.code a)) → NamesTargets image old
-    → NamesTargets image (record { code = code; labels = old.labels; far = old.far })
+    → NamesTargets image (record old { code = code })
 names_same image old code same names =
     let named : (t : ℕ) → IsNamedBy image old t ↔ IsNamedBy image
-    (record { code = code; labels = old.labels; far = old.far }) t =
+    (record old { code = code }) t =
     λ t. (λ n. (n.0, (same n.0).1 n.1, n.2), λ n. (n.0, (same n.0).0 n.1, n.2)) in
     record {
       labels = λ a. (

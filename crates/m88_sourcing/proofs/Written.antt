@@ -9,6 +9,7 @@ use Rattle.m88_base.specs.Image.{ProgramImage, parts}
 use Rattle.m88_base.specs.Lines.{line_end, text_of_lines}
 use Rattle.m88_disasm.specs.Listing.{start_line}
 use Rattle.m88_sourcing.specs.Inside.Members.{OutlinesImage}
+use Rattle.m88_sourcing.specs.Said.{Said}
 use Rattle.m88_sourcing.specs.Source.{AreSourceLines, IsSource, LineWhere, far_line}
 use Rattle.m88_sourcing.specs.declared.outline.Outline.{Outline}
 use Rattle.m88_sourcing.proofs.Cutting.{line_where}
@@ -16,11 +17,11 @@ use Rattle.m88_sourcing.proofs.Cutting.{line_where}
 not_same : (P Q : Type 0) → P ↔ Q → (¬ P) ↔ (¬ Q)
 not_same P Q same = (λ none q. none (same.1 q), λ none p. none (same.0 p))
 
-pub source_of : (image : ProgramImage) (entries : List ℕ) (o : Outline) (t1 t2 t3 : List ℕ) → OutlinesImage image entries o
+pub source_of : (image : ProgramImage) (said : Said) (o : Outline) (t1 t2 t3 : List ℕ) → OutlinesImage image said o
     → AreAppended (LineWhere (¬ IsTrue (contains o.code image.start)) (start_line image.start)) [] t1
     → t2 ≡ t1 ++ text_of_lines (map far_line o.far.items)
-    → AreAppended (AreSourceLines (λ _. []) image entries (parts image)) t2 t3 → IsSource image entries t3
-source_of image entries o t1 t2 t3 is s far l = record {
+    → AreAppended (AreSourceLines (λ _. []) image said (parts image)) t2 t3 → IsSource image said t3
+source_of image said o t1 t2 t3 is s far l = record {
   start = s.lines;
   far = o.far.items;
   lines = l.lines;
@@ -37,13 +38,13 @@ source_of image entries o t1 t2 t3 is s far l = record {
 }
 
 -- from an empty text on
-pub whole_source : (image : ProgramImage) (entries : List ℕ) (o : Outline) (start : ℕ) (t0 t1 t2 t3 : List ℕ)
-    → start ≡ image.start → t0 ≡ [] → OutlinesImage image entries o
+pub whole_source : (image : ProgramImage) (said : Said) (o : Outline) (start : ℕ) (t0 t1 t2 t3 : List ℕ)
+    → start ≡ image.start → t0 ≡ [] → OutlinesImage image said o
     → AreAppended (LineWhere (¬ IsTrue (contains o.code start)) (start_line start)) t0 t1
     → t2 ≡ t1 ++ text_of_lines (map far_line o.far.items)
-    → AreAppended (AreSourceLines (λ _. []) image entries (parts image)) t2 t3 → IsSource image entries t3
-whole_source image entries o start t0 t1 t2 t3 start_is none is s far l =
-    source_of image entries o t1 t2 t3 is
+    → AreAppended (AreSourceLines (λ _. []) image said (parts image)) t2 t3 → IsSource image said t3
+whole_source image said o start t0 t1 t2 t3 start_is none is s far l =
+    source_of image said o t1 t2 t3 is
     (subst
     (λ (t : List ℕ). AreAppended (LineWhere (¬ IsTrue (contains o.code image.start)) (start_line image.start)) t t1)
     none

@@ -4,13 +4,14 @@ use Rattle.m88_base.specs.Image.{ProgramImage}
 use Rattle.m88_base.specs.Refusal.{Refusal, refusal_line}
 use Rattle.m88_sourcing.specs.Inputs.{IsImageIn, IsRefusedIn}
 use Rattle.m88_sourcing.specs.Request.{Asks, Request}
+use Rattle.m88_sourcing.specs.Said.{entering}
 use Rattle.m88_sourcing.specs.Source.{IsSource}
 
 -- the text is the source of the image that the input is
 pub record SourcesAccepted (request : Request) (input text : List ℕ) : Type 0 where
   pub image : ProgramImage
   pub is_image : IsImageIn request.at input image
-  pub is_source : IsSource image request.entries text
+  pub is_source : IsSource image (entering request.entries) text
 
 -- the text is the line that refuses the input
 pub record SourcesRefused (request : Request) (input text : List ℕ) : Type 0 where

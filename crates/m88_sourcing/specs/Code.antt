@@ -8,6 +8,7 @@ use Rattle.m88_isa.specs.ImageProgram.{HasWordOf}
 use Rattle.m88_isa.specs.Word.{word_of}
 use Rattle.m88_isa.specs.declared.instr.Instr.{Instr}
 use Rattle.m88_sourcing.specs.Flow.{asks_for_end, goes_on_to, calls_monitor, slot, branch_target}
+use Rattle.m88_sourcing.specs.Said.{Said}
 
 -- an instruction stands at an address: its word, which isn't 0, at a multiple of 4
 abbrev pub HoldsInstruction : ProgramImage → ℕ → Instr → Type 0
@@ -41,8 +42,8 @@ pub data IsReached (image : ProgramImage) (seeds : List ℕ) : ℕ → Type 0 wh
   leads : {a b : ℕ} → IsReached image seeds a → IsReachedFrom image a b → IsReached image seeds b
 
 -- the words at which code begins: the start's, and those of further addresses
-abbrev pub seeds_of : ProgramImage → List ℕ → List ℕ
-seeds_of image entries = word_address image.start ∷ map word_address entries
+abbrev pub seeds_of : ProgramImage → Said → List ℕ
+seeds_of image said = word_address image.start ∷ map word_address said.entries
 
 -- an instruction stands in the delay slot of the one at another address
 abbrev pub IsSlotOf : ProgramImage → ℕ → ℕ → Type 0
@@ -50,10 +51,10 @@ IsSlotOf image a b = (i : Instr) × HoldsInstruction image a i × (slot a i ≡ 
 
 -- the addresses of the words that are code: those that are reached, and the delay slots of branches and jumps that are;
 -- a slot is led to by its own branch alone, and leads nowhere as a slot
-pub data IsCode (image : ProgramImage) (entries : List ℕ) (b : ℕ) : Type 0 where
-  reached : IsReached image (seeds_of image entries) b → IsCode image entries b
-  in_slot : (a : ℕ) → IsReached image (seeds_of image entries) a → IsSlotOf image a b → IsCode image entries b
+pub data IsCode (image : ProgramImage) (said : Said) (b : ℕ) : Type 0 where
+  reached : IsReached image (seeds_of image said) b → IsCode image said b
+  in_slot : (a : ℕ) → IsReached image (seeds_of image said) a → IsSlotOf image a b → IsCode image said b
 
 -- the byte at an address belongs to a word that is code
-abbrev pub InCode : ProgramImage → List ℕ → ℕ → Type 0
-InCode image entries a = IsCode image entries (word_address a)
+abbrev pub InCode : ProgramImage → Said → ℕ → Type 0
+InCode image said a = IsCode image said (word_address a)

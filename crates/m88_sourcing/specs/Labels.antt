@@ -9,6 +9,7 @@ use Rattle.m88_isa.specs.Names.{branch_bit_name, branch_cond_name, branch_name}
 use Rattle.m88_disasm.specs.Text.{condition, instr_text, register_name, spelled}
 use Rattle.m88_sourcing.specs.Code.{IsCode, HoldsInstruction}
 use Rattle.m88_sourcing.specs.Flow.{branch_target}
+use Rattle.m88_sourcing.specs.Said.{Said}
 
 -- the name of an address: L and its eight digits
 abbrev pub label_of : ℕ → List ℕ
@@ -23,16 +24,16 @@ abbrev pub BranchesTo : ProgramImage → ℕ → ℕ → Type 0
 BranchesTo image a t = (i : Instr) × HoldsInstruction image a i × (branch_target a i ≡ Some t)
 
 -- a word that is code branches to an address
-abbrev pub IsTarget : ProgramImage → List ℕ → ℕ → Type 0
-IsTarget image entries t = (from : ℕ) × IsCode image entries from × BranchesTo image from t
+abbrev pub IsTarget : ProgramImage → Said → ℕ → Type 0
+IsTarget image said t = (from : ℕ) × IsCode image said from × BranchesTo image from t
 
 -- code begins at an address as was said: it is the word of an entry, and it is code
-abbrev pub IsEntry : ProgramImage → List ℕ → ℕ → Type 0
-IsEntry image entries a = Contains (map word_address entries) a × IsCode image entries a
+abbrev pub IsEntry : ProgramImage → Said → ℕ → Type 0
+IsEntry image said a = Contains (map word_address said.entries) a × IsCode image said a
 
 -- an address has a label: a byte is there, and a branch leads to it, or code begins there as was said
-abbrev pub HasLabel : ProgramImage → List ℕ → ℕ → Type 0
-HasLabel image entries a = IsSome (byte_at image a) × (IsTarget image entries a ⊎ IsEntry image entries a)
+abbrev pub HasLabel : ProgramImage → Said → ℕ → Type 0
+HasLabel image said a = IsSome (byte_at image a) × (IsTarget image said a ⊎ IsEntry image said a)
 
 -- the text of a branch that names its target
 abbrev pub named_text : Instr → List ℕ → List ℕ

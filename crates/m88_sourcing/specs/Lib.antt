@@ -1,4 +1,5 @@
 -- The source of an image that can be edited, which words of an image are code, and what holds of every such source.
+pub mod Said
 pub mod Flow
 pub mod Code
 pub mod Labels

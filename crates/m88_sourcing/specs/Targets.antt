@@ -15,6 +15,7 @@ use Rattle.m88_asm.specs.Units.{address_in, base_in, based, unit_layout}
 use Rattle.m88_sourcing.specs.Code.{IsCode, HoldsInstruction}
 use Rattle.m88_sourcing.specs.Flow.{branch_target}
 use Rattle.m88_sourcing.specs.Labels.{label_of}
+use Rattle.m88_sourcing.specs.Said.{Said}
 
 -- an instruction with another count of words, where it is a branch
 abbrev pub counting : ℤ → Instr → Instr
@@ -42,7 +43,7 @@ pub record NamesTarget (unit : Source) (a : ℕ) (i : Instr) (t : ℕ) : Type 0 
   pub means : meaning_in unit placed name.symbol ≡ Some t
 
 -- so it is with every branch that is code
-abbrev pub NamesItsTargets : ProgramImage → List ℕ → Source → Type 0
-NamesItsTargets image entries unit =
-    (a : ℕ) (i : Instr) (t : ℕ) → IsCode image entries a → HoldsInstruction image a i → branch_target a i ≡ Some t
+abbrev pub NamesItsTargets : ProgramImage → Said → Source → Type 0
+NamesItsTargets image said unit =
+    (a : ℕ) (i : Instr) (t : ℕ) → IsCode image said a → HoldsInstruction image a i → branch_target a i ≡ Some t
     → NamesTarget unit a i t

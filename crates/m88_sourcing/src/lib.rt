@@ -6,6 +6,7 @@
 mod flow;
 mod outline;
 mod reaching;
+mod said;
 mod standing;
 mod words;
 
@@ -23,4 +24,5 @@ mod program;
 mod request;
 
 pub use program::m88source;
+pub use said::Said;
 pub use source::source_text;

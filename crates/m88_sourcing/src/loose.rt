@@ -1,5 +1,5 @@
 //! The lines of bytes that are no code.
-ghost use Rattle.std.specs.Prelude.{◌≡◌, ◌+◌, ◌++◌, ◌%◌, ◌<◌, ◌≤◌, ◌^◌, ℕ, List, IfOk, IsTrue, OnOk, drop, length};
+ghost use Rattle.std.specs.Prelude.{◌≡◌, ◌+◌, ◌++◌, ◌%◌, ◌<◌, ◌≤◌, ◌^◌, ℕ, IfOk, IsTrue, OnOk, drop, length};
 ghost use Rattle.std.specs.FinSet.{contains};
 ghost use Rattle.m88_base.specs.Appended.{AreAppended};
 ghost use Rattle.m88_base.specs.Image.{ProgramImage};
@@ -7,6 +7,7 @@ ghost use Rattle.m88_base.specs.Lines.{line_end};
 ghost use Rattle.m88_sourcing.specs.Data.{AreDataLines, item_length, item_line};
 ghost use Rattle.m88_sourcing.specs.Inside.Appended.{FrontAppended};
 ghost use Rattle.m88_sourcing.specs.Inside.Members.{OutlinesImage, IsOutlined};
+ghost use Rattle.m88_sourcing.specs.Said.{Said};
 ghost use Rattle.m88_sourcing.specs.Source.{AreLooseLines, IsStretch};
 
 use crate::item::{Finding, Item};
@@ -48,7 +49,7 @@ fn push_data(text: &mut Vec<u8>, at: u32, bytes: &[u8]) -> Result<(), AllocError
 }
 
 /// How many of the bytes from an address on come before the next label behind the first byte.
-fn stretch_len(labels: &Words, at: u32, bytes: &[u8]) -> usize
+pub(crate) fn stretch_len(labels: &Words, at: u32, bytes: &[u8]) -> usize
     requires some { 0 < length bytes.now }
     requires fits { at + length bytes.now ≤ 2 ^ 32 }
     requires whole { (a : ℕ) → IsTrue (contains labels.now a) → a % 4 ≡ 0 }
@@ -71,10 +72,10 @@ fn push_stretch(
     requires outlined { (image : ProgramImage) × IsOutlined image outline.now }
     requires some { 0 < length bytes.now }
     requires fits { at + length bytes.now ≤ 2 ^ 32 }
-    ensures lines { IfOk result (λ n. (image : ProgramImage) (entries : List ℕ)
-        → OutlinesImage image entries outline.now
-        → FrontAppended (AreLooseLines image entries at bytes.now)
-        (AreLooseLines image entries (at + n) (drop n bytes.now)) text.old.items text.new.items) }
+    ensures lines { IfOk result (λ n. (image : ProgramImage) (said : Said)
+        → OutlinesImage image said outline.now
+        → FrontAppended (AreLooseLines image said at bytes.now)
+        (AreLooseLines image said (at + n) (drop n bytes.now)) text.old.items text.new.items) }
     ensures some { IfOk result (λ n. 0 < n) }
     ensures within { IfOk result (λ n. n ≤ length bytes.now) }
 {
@@ -93,9 +94,9 @@ pub(crate) fn push_loose(
 ) -> Result<(), AllocError>
     requires outlined { (image : ProgramImage) × IsOutlined image outline.now }
     requires fits { at + length bytes.now ≤ 2 ^ 32 }
-    ensures { OnOk result ((image : ProgramImage) (entries : List ℕ)
-        → OutlinesImage image entries outline.now
-        → AreAppended (AreLooseLines image entries at bytes.now)
+    ensures { OnOk result ((image : ProgramImage) (said : Said)
+        → OutlinesImage image said outline.now
+        → AreAppended (AreLooseLines image said at bytes.now)
         text.old.items text.new.items) }
 {
     let mut done = 0;

@@ -1,7 +1,7 @@
 //! What is known of an image before its source is written.
-ghost use Rattle.std.specs.Prelude.{◌≡◌, ◌⊎◌, ◌↔◌, ℕ, Some, false, IfOk, IsSome, IsTrue, OnOk};
+ghost use Rattle.std.specs.Prelude.{◌≡◌, ◌⊎◌, ◌↔◌, ℕ, Some, false, Contains, IfOk, IsTrue, OnOk, map};
 ghost use Rattle.std.specs.FinSet.{contains};
-ghost use Rattle.m88_base.specs.Image.{ProgramImage, byte_at};
+ghost use Rattle.m88_base.specs.Image.{ProgramImage};
 ghost use Rattle.m88_isa.specs.Address.{word_address};
 ghost use Rattle.m88_sourcing.specs.Code.{HoldsInstruction};
 ghost use Rattle.m88_sourcing.specs.Flow.{branch_target};
@@ -14,13 +14,16 @@ use m88_base::Image;
 use m88_isa::Instr;
 use std::alloc::{AllocError, Global};
 
-/// The words that are code, the addresses that have a label, and the targets of branches that have no byte.
+/// The words that are code, the addresses that have a label, the targets of branches that have no byte, and the words that
+/// stay where they are.
 #[derive(Drop)]
 pub(crate) struct Outline {
     pub code: Words,
     pub labels: Words,
     /// One for each branch to it, until `outline_of` sorts them and drops repeats.
     pub far: Vec<u32>,
+    /// None, until `outline_of` has noted those that were said.
+    pub stays: Words,
 }
 
 impl Outline {
@@ -33,6 +36,7 @@ impl Outline {
             code: Words::new(alloc, image)?,
             labels: Words::new(alloc, image)?,
             far: Vec::new(alloc),
+            stays: Words::new(alloc, image)?,
         })
     }
 }
@@ -93,7 +97,7 @@ pub(crate) fn note_word(
 }
 
 /// Notes the word of an address at which code was said to begin, where it is code.
-pub(crate) fn note_entry(labels: &mut Words, code: &Words, entry: u32) -> Result<(), AllocError>
+fn note_entry(labels: &mut Words, code: &Words, entry: u32) -> Result<(), AllocError>
     ensures { OnOk result ((a : ℕ) → IsTrue (contains labels.new a)
         ↔ (IsTrue (contains labels.old a)
         ⊎ ((a ≡ word_address entry) × IsTrue (contains code.now a)))) }
@@ -103,4 +107,32 @@ pub(crate) fn note_entry(labels: &mut Words, code: &Words, entry: u32) -> Result
         labels.insert(at)?;
     }
     Ok(())
+}
+
+/// Notes the words of addresses at which code was said to begin, where they are code.
+pub(crate) fn note_entries(
+    labels: &mut Words,
+    code: &Words,
+    entries: &[u32],
+) -> Result<(), AllocError>
+    ensures { OnOk result ((a : ℕ) → IsTrue (contains labels.new a)
+        ↔ (IsTrue (contains labels.old a)
+        ⊎ (Contains (map word_address entries.now) a × IsTrue (contains code.now a)))) }
+{
+    for entry in entries {
+        note_entry(labels, code, *entry)?;
+    }
+    Ok(())
+}
+
+/// The words of addresses.
+pub(crate) fn words_at(alloc: Global, image: &Image, addresses: &[u32]) -> Result<Words, AllocError>
+    ensures { IfOk result (λ words. (a : ℕ) → IsTrue (contains words a)
+        ↔ Contains (map word_address addresses.now) a) }
+{
+    let mut words = Words::new(alloc, image)?;
+    for at in addresses {
+        words.insert(*at / 4 * 4)?;
+    }
+    Ok(words)
 }

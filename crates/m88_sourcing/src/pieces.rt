@@ -8,10 +8,11 @@ ghost use Rattle.m88_sourcing.specs.Code.{HasInstruction};
 ghost use Rattle.m88_sourcing.specs.Inside.Appended.{FrontAppended};
 ghost use Rattle.m88_sourcing.specs.Inside.Members.{AsAt, OutlinesImage, IsOutlined, among_words};
 ghost use Rattle.m88_sourcing.specs.Labels.{HasLabel};
+ghost use Rattle.m88_sourcing.specs.Said.{Said};
 ghost use Rattle.m88_sourcing.specs.Source.{AreCodeLines, AreSourceLines, ArePieceLines, IsPiece};
 
 use crate::lines::{push_label_at, push_start_at};
-use crate::loose::push_loose;
+use crate::loose::{push_loose, stretch_len};
 use crate::naming::push_instruction;
 use crate::outline::Outline;
 use crate::standing::instruction_in;
@@ -53,10 +54,10 @@ fn push_code_word(
     requires stands { HasInstruction image.now at }
     requires long { 4 ≤ length bytes.now }
     requires there { (k : ℕ) → k < 4 → byte_at image.now (at + k) ≡ slice_get bytes.now k }
-    ensures { OnOk result ((entries : List ℕ) (n : ℕ)
-        → ((a : ℕ) → IsTrue (contains labels.now a) ↔ HasLabel image.now entries a)
-        → FrontAppended (AreCodeLines (λ _. []) image.now entries at (suc n))
-        (AreCodeLines (λ _. []) image.now entries (at + 4) n) text.old.items text.new.items) }
+    ensures { OnOk result ((said : Said) (n : ℕ)
+        → ((a : ℕ) → IsTrue (contains labels.now a) ↔ HasLabel image.now said a)
+        → FrontAppended (AreCodeLines (λ _. []) image.now said at (suc n))
+        (AreCodeLines (λ _. []) image.now said (at + 4) n) text.old.items text.new.items) }
 {
     push_label_at(text, labels.contains(at), at)?;
     push_start_at(text, image.start(), at)?;
@@ -76,8 +77,8 @@ fn push_code(
 ) -> Result<(), AllocError>
     requires fits { at + 4 * words ≤ 2 ^ 32 }
     requires stand { (k : ℕ) → k < words → HasInstruction image.now (at + 4 * k) }
-    ensures { OnOk result ((entries : List ℕ) → OutlinesImage image.now entries outline.now
-        → AreAppended (AreCodeLines (λ _. []) image.now entries at words)
+    ensures { OnOk result ((said : Said) → OutlinesImage image.now said outline.now
+        → AreAppended (AreCodeLines (λ _. []) image.now said at words)
         text.old.items text.new.items) }
 {
     let bytes = image.rest(at);
@@ -102,10 +103,10 @@ fn push_piece(
     requires fits { at + length bytes.now ≤ 2 ^ 32 }
     requires end { byte_at image.now (at + length bytes.now) ≡ None }
     requires whole { IsTrue (among_words (contains outline.now.code) at) → at % 4 ≡ 0 }
-    ensures lines { IfOk result (λ n. (entries : List ℕ)
-        → OutlinesImage image.now entries outline.now
-        → FrontAppended (ArePieceLines (λ _. []) image.now entries at bytes.now)
-        (ArePieceLines (λ _. []) image.now entries (at + n) (drop n bytes.now))
+    ensures lines { IfOk result (λ n. (said : Said)
+        → OutlinesImage image.now said outline.now
+        → FrontAppended (ArePieceLines (λ _. []) image.now said at bytes.now)
+        (ArePieceLines (λ _. []) image.now said (at + n) (drop n bytes.now))
         text.old.items text.new.items) }
     ensures some { IfOk result (λ n. 0 < n) }
     ensures within { IfOk result (λ n. n ≤ length bytes.now) }
@@ -114,10 +115,11 @@ fn push_piece(
     let len = piece_len(&outline.code, at, bytes);
     push_place(text, at)?;
     if is_in_code(&outline.code, at) {
-        push_code(text, image, outline, at, len / 4)?;
-    } else {
-        push_loose(text, outline, at, &bytes[..len])?;
+        let own = stretch_len(&outline.stays, at, &bytes[..len]);
+        push_code(text, image, outline, at, own / 4)?;
+        return Ok(own);
     }
+    push_loose(text, outline, at, &bytes[..len])?;
     Ok(len)
 }
 
@@ -132,8 +134,8 @@ fn push_part(
     requires outlined { IsOutlined image.now outline.now }
     requires fits { at + length bytes.now ≤ 2 ^ 32 }
     requires part { IsPart (byte_at image.now) at bytes.now }
-    ensures { OnOk result ((entries : List ℕ) → OutlinesImage image.now entries outline.now
-        → AreAppended (ArePieceLines (λ _. []) image.now entries at bytes.now)
+    ensures { OnOk result ((said : Said) → OutlinesImage image.now said outline.now
+        → AreAppended (ArePieceLines (λ _. []) image.now said at bytes.now)
         text.old.items text.new.items) }
 {
     let mut done = 0;
@@ -152,8 +154,8 @@ pub(crate) fn push_parts(
     outline: &Outline,
 ) -> Result<(), AllocError>
     requires { IsOutlined image.now outline.now }
-    ensures lines { OnOk result ((entries : List ℕ) → OutlinesImage image.now entries outline.now
-        → AreAppended (AreSourceLines (λ _. []) image.now entries (parts image.now))
+    ensures lines { OnOk result ((said : Said) → OutlinesImage image.now said outline.now
+        → AreAppended (AreSourceLines (λ _. []) image.now said (parts image.now))
         text.old.items text.new.items) }
     ensures image { IsImage image.now }
 {

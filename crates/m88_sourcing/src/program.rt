@@ -15,6 +15,7 @@ ghost use Rattle.m88_sourcing.specs.Request.{Asks, Request as Asked};
 
 use crate::input::read_input;
 use crate::request::{Request, asked_for};
+use crate::said::entering;
 use crate::source::source_text;
 use m88_base::{Image, NoMemory, Refusal, Reply, Sink, Source, Status, accept, refuse};
 use std::alloc::Global;
@@ -88,7 +89,8 @@ fn reply_to(
 {
     match input {
         Ok(image) => {
-            let text = source_text(alloc, image, request.entries.as_slice())?;
+            let said = entering(alloc, request.entries.as_slice())?;
+            let text = source_text(alloc, image, &said)?;
             Ok(accept(text))
         }
         Err(refusal) => refuse(alloc, refusal),

@@ -1,14 +1,17 @@
 //! The words that the flow of a program reaches.
-ghost use Rattle.std.specs.Prelude.{◌≡◌, ◌⊎◌, ◌↔◌, ◌++◌, ℕ, List, Some, Contains, IfOk, IfSome, OnOk, IsTrue};
+ghost use Rattle.std.specs.Prelude.{◌≡◌, ◌⊎◌, ◌↔◌, ◌++◌, ◌∷◌, ℕ, List, Some, Contains, IfOk, IfSome, OnOk, IsTrue, map};
 ghost use Rattle.std.specs.Option.{option_to_list};
 ghost use Rattle.std.specs.FinSet.{contains};
-ghost use Rattle.m88_sourcing.specs.Code.{HasInstruction, HoldsInstruction, IsCode, IsReached, seeds_of};
+ghost use Rattle.m88_sourcing.specs.Code.{HasInstruction, HoldsInstruction, IsCode, IsReached};
+ghost use Rattle.m88_isa.specs.Address.{word_address};
 ghost use Rattle.m88_sourcing.specs.Flow.{branch_target};
 ghost use Rattle.m88_sourcing.specs.Inside.Members.{OutlinesImage};
+ghost use Rattle.m88_sourcing.specs.Said.{told};
 ghost use Rattle.m88_sourcing.specs.Inside.Walks.{AreRest, HasSlot, IsClosed, IsReachedIfCode, IsWalkSound, Keeps, MayLeadTo, NamesTargets};
 
 use crate::flow::{goes_on_to, slot};
-use crate::outline::{Noted, Outline, note_entry, note_word};
+use crate::outline::{Noted, Outline, note_entries, note_word, words_at};
+use crate::said::Said;
 use crate::standing::{bytes_on, is_exit, standing, standing_in};
 use m88_base::Image;
 use m88_isa::Instr;
@@ -173,7 +176,8 @@ fn note_slots(outline: &mut Outline, image: &Image, slots: &[u32]) -> Result<(),
 
 /// The words at which code begins: the start's, and those of further addresses.
 fn seeds(alloc: Global, image: &Image, entries: &[u32]) -> Result<Vec<u32>, AllocError>
-    ensures { IfOk result (λ seeds. seeds.items ≡ seeds_of image.now entries.now) }
+    ensures { IfOk result (λ seeds.
+        seeds.items ≡ word_address image.now.start ∷ map word_address entries.now) }
 {
     let mut seeds = Vec::new(alloc);
     seeds.push(image.start() / 4 * 4)?;
@@ -183,13 +187,13 @@ fn seeds(alloc: Global, image: &Image, entries: &[u32]) -> Result<Vec<u32>, Allo
     Ok(seeds)
 }
 
-/// The words of an image that are code, where code begins at these addresses besides the start, with their targets.
-fn code_words(alloc: Global, image: &Image, entries: &[u32]) -> Result<Outline, AllocError>
+/// The words of an image that are code, by what is said of it, with their targets.
+fn code_words(alloc: Global, image: &Image, said: &Said) -> Result<Outline, AllocError>
     ensures code { IfOk result (λ o. (a : ℕ)
-        → IsTrue (contains o.code a) ↔ IsCode image.now entries.now a) }
+        → IsTrue (contains o.code a) ↔ IsCode image.now (told said.now) a) }
     ensures names { IfOk result (λ o. NamesTargets image.now o) }
 {
-    let seeds = seeds(alloc, image, entries)?;
+    let seeds = seeds(alloc, image, said.entries.as_slice())?;
     let Walk {
         mut outline,
         slots,
@@ -199,19 +203,15 @@ fn code_words(alloc: Global, image: &Image, entries: &[u32]) -> Result<Outline, 
     Ok(outline)
 }
 
-/// The outline of an image, where code begins at these addresses besides the start.
-pub(crate) fn outline_of(
-    alloc: Global,
-    image: &Image,
-    entries: &[u32],
-) -> Result<Outline, AllocError>
-    ensures { IfOk result (λ o. OutlinesImage image.now entries.now o) }
+/// The outline of an image, by what is said of it.
+pub(crate) fn outline_of(alloc: Global, image: &Image, said: &Said) -> Result<Outline, AllocError>
+    ensures { IfOk result (λ o. OutlinesImage image.now (told said.now) o) }
 {
-    let mut outline = code_words(alloc, image, entries)?;
-    for entry in entries {
-        note_entry(&mut outline.labels, &outline.code, *entry)?;
-    }
+    let mut outline = code_words(alloc, image, said)?;
+    note_entries(&mut outline.labels, &outline.code, said.entries.as_slice())?;
     outline.far.sort_unstable();
     outline.far.dedup();
+    let stays = words_at(alloc, image, said.fixed.as_slice())?;
+    outline.stays = stays;
     Ok(outline)
 }

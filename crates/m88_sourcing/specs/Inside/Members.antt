@@ -5,20 +5,22 @@ use Rattle.m88_base.specs.Image.{ProgramImage, byte_at}
 use Rattle.m88_isa.specs.Address.{word_address}
 use Rattle.m88_sourcing.specs.Code.{IsCode}
 use Rattle.m88_sourcing.specs.Labels.{HasLabel}
+use Rattle.m88_sourcing.specs.Said.{Said, Stays}
 use Rattle.m88_sourcing.specs.Source.{AreFar}
 use Rattle.m88_sourcing.specs.declared.outline.Noted.{Noted}
 use Rattle.m88_sourcing.specs.declared.outline.Noted.TheVariants.{Before, Now}
 use Rattle.m88_sourcing.specs.declared.outline.Outline.{Outline}
 
--- the words that are code, the addresses with a label, and the targets without a byte
-pub record OutlinesImage (image : ProgramImage) (entries : List ℕ) (o : Outline) : Type 0 where
-  pub code : (a : ℕ) → IsTrue (contains o.code a) ↔ IsCode image entries a
-  pub labels : (a : ℕ) → IsTrue (contains o.labels a) ↔ HasLabel image entries a
-  pub far : AreFar image entries o.far.items
+-- the words that are code, the addresses with a label, the targets without a byte, and the words that stay where they are
+pub record OutlinesImage (image : ProgramImage) (said : Said) (o : Outline) : Type 0 where
+  pub code : (a : ℕ) → IsTrue (contains o.code a) ↔ IsCode image said a
+  pub labels : (a : ℕ) → IsTrue (contains o.labels a) ↔ HasLabel image said a
+  pub far : AreFar image said o.far.items
+  pub stays : (a : ℕ) → IsTrue (contains o.stays a) ↔ Stays said a
 
 -- it is the outline of the image, with code that begins at some addresses besides the start
 abbrev pub IsOutlined : ProgramImage → Outline → Type 0
-IsOutlined image o = (entries : List ℕ) × OutlinesImage image entries o
+IsOutlined image o = (said : Said) × OutlinesImage image said o
 
 -- the byte at an address belongs to a word of a set
 abbrev pub among_words : (ℕ → Bool) → ℕ → Bool

@@ -12,14 +12,14 @@ loop-done-preserved c = record {
       let back = c.split_at.ensures.back_len in
       let done = c.loop-done.invariant.within in
       omega (arith, n, back, done);
-  so_far = λ image entries is.
-      more_front (AreLooseLines image entries) c.args.at c.loop-done.done c.in_ok-len.len c.args.bytes.now
+  so_far = λ image said is.
+      more_front (AreLooseLines image said) c.args.at c.loop-done.done c.in_ok-len.len c.args.bytes.now
       c.split_at.result.1.now c.args.text.now.items c.loop-done.text.items c.push_stretch.new.text.items
-      c.split_at.ensures.back (c.loop-done.invariant.so_far image entries is)
-      (c.in_ok-len.ensures.lines image entries is);
+      c.split_at.ensures.back (c.loop-done.invariant.so_far image said is)
+      (c.in_ok-len.ensures.lines image said is);
 }
 
 pub returns : goal.returns
-returns c = λ image entries is.
-    all_front (AreLooseLines image entries) (λ a. no_byte) c.args.at c.loop-done.done c.args.bytes.now _ _ (omega arith)
-    (c.loop-done.invariant.so_far image entries is)
+returns c = λ image said is.
+    all_front (AreLooseLines image said) (λ a. no_byte) c.args.at c.loop-done.done c.args.bytes.now _ _ (omega arith)
+    (c.loop-done.invariant.so_far image said is)

@@ -10,8 +10,8 @@ stretch_len-len-requires-clause-whole c = λ a labelled.
     label_whole o.0 o.1.0 a ((o.1.1.labels a).0 labelled)
 
 pub returns-clause-lines : goal.returns-clause-lines
-returns-clause-lines c = λ image entries is.
-    stretch_front image entries c.args.at c.stretch_len-len.result c.args.bytes.now c.args.text.now.items
+returns-clause-lines c = λ image said is.
+    stretch_front image said c.args.at c.stretch_len-len.result c.args.bytes.now c.args.text.now.items
     c.push_label_at.new.text.items c.push_data.new.text.items
     (stretch_of _ _ c.args.at c.args.bytes.now c.stretch_len-len.result is.labels c.stretch_len-len.ensures)
     (lines_where _ _ _ _ _

@@ -25,7 +25,7 @@ returns-then-not-branch-clause-again c = λ e.
 pub returns-in_default-clause-named : goal.returns-in_default-clause-named
 returns-in_default-clause-named c =
     let old = c.args.outline.now in
-    let with : Outline = record { code = c.insert.new.self; labels = old.labels; far = old.far } in
+    let with : Outline = record old { code = c.insert.new.self } in
     let none : branch_target c.args.at c.args.instr.now ≡ None = sym c.branch_target.ensures ∙ c.in_default.is in
     names_more c.args.image.now old c.insert.new.self with c.args.at c.args.instr.now c.requires.holds c.requires.named
     c.in_ok-insert.ensures.has (notes_none c.args.image.now with c.args.at c.args.instr.now none)
@@ -33,7 +33,7 @@ returns-in_default-clause-named c =
 pub returns-then-contains-clause-named : goal.returns-then-contains-clause-named
 returns-then-contains-clause-named c =
     let old = c.args.outline.now in
-    let with : Outline = record { code = c.insert.new.self; labels = old.labels; far = old.far } in
+    let with : Outline = record old { code = c.insert.new.self } in
     let to : branch_target c.args.at c.args.instr.now ≡ Some c.in-Some.target = sym c.branch_target.ensures ∙ c.in-Some.is in
     let there : IsTrue (contains old.labels c.in-Some.target) = sym c.contains.ensures ∙ c.if-contains.true in
     names_more c.args.image.now old c.insert.new.self with c.args.at c.args.instr.now c.requires.holds c.requires.named
@@ -44,7 +44,7 @@ returns-then-contains-clause-named c =
 pub returns-clause-named : goal.returns-clause-named
 returns-clause-named c =
     let old = c.args.outline.now in
-    let with : Outline = record { code = c.insert.new.self; labels = old.labels; far = old.far } in
+    let with : Outline = record old { code = c.insert.new.self } in
     let to : branch_target c.args.at c.args.instr.now ≡ Some c.in-Some.target = sym c.branch_target.ensures ∙ c.in-Some.is in
     names_more c.args.image.now old c.insert.new.self c.note_target.new.outline c.args.at c.args.instr.now c.requires.holds
     c.requires.named c.in_ok-insert.ensures.has

@@ -44,14 +44,14 @@ push_code_word-requires-clause-there c = λ k four.
     ∙ sym (dropped n c.rest-bytes.result.now k))
 
 pub loop-index-preserved : goal.loop-index-preserved
-loop-index-preserved c = λ entries is.
+loop-index-preserved c = λ said is.
     front_then _ _ _ c.args.text.now.items c.loop-index.text.items c.push_code_word.new.text.items
-    (c.loop-index.invariant entries is)
-    (next_word c.args.image.now entries c.args.at c.loop-index.index c.args.words (c.args.at + 4 * c.loop-index.index)
+    (c.loop-index.invariant said is)
+    (next_word c.args.image.now said c.args.at c.loop-index.index c.args.words (c.args.at + 4 * c.loop-index.index)
     c.loop-index.text.items c.push_code_word.new.text.items c.loop-index-test.true refl
-    (λ n. c.in_ok-push_code_word.ensures entries n is.labels))
+    (λ n. c.in_ok-push_code_word.ensures said n is.labels))
 
 pub returns : goal.returns
-returns c = λ entries is.
-    all_code c.args.image.now entries c.args.at c.loop-index.index c.args.words _ _ (omega arith)
-    (c.loop-index.invariant entries is)
+returns c = λ said is.
+    all_code c.args.image.now said c.args.at c.loop-index.index c.args.words _ _ (omega arith)
+    (c.loop-index.invariant said is)

@@ -2,11 +2,12 @@
 use Rattle.std.proofs.Common.{◌+◌, ◌-◌, ◌*◌, ℕ, List, []}
 use Rattle.m88_sourcing.specs.Inside.Appended.{FrontAppended}
 use Rattle.m88_sourcing.specs.Inside.Members.{OutlinesImage}
+use Rattle.m88_sourcing.specs.Said.{Said}
 use Rattle.m88_sourcing.specs.Source.{AreCodeLines}
 use Rattle.m88_sourcing.proofs.pieces.push_code.Given as goal
 
 abbrev pub invariant-loop-index : goal.invariant-loop-index
 invariant-loop-index l =
-    (entries : List ℕ) → OutlinesImage l.image entries l.outline
-    → FrontAppended (AreCodeLines (λ _. []) l.image entries l.at l.words)
-    (AreCodeLines (λ _. []) l.image entries (l.at + 4 * l.index) (l.words - l.index)) l.initial.text.items l.text.items
+    (said : Said) → OutlinesImage l.image said l.outline
+    → FrontAppended (AreCodeLines (λ _. []) l.image said l.at l.words)
+    (AreCodeLines (λ _. []) l.image said (l.at + 4 * l.index) (l.words - l.index)) l.initial.text.items l.text.items

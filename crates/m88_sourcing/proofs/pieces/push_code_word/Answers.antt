@@ -21,8 +21,8 @@ unreachable-requires c =
 pub returns : goal.returns
 returns c =
     on_ok_weaker c.push_instruction.result
-    (λ text entries n is.
-    word_front c.args.image.now entries c.args.at n c.in-Some.instr c.args.text.now.items c.push_label_at.new.text.items
+    (λ text said n is.
+    word_front c.args.image.now said c.args.at n c.in-Some.instr c.args.text.now.items c.push_label_at.new.text.items
     c.push_start_at.new.text.items c.push_instruction.new.text.items (held c.args.image.now c.args.at c.requires.stands.0 c.in-Some.instr c.requires.stands.1
     (c.in-Some.ensures.only c.args.image.now c.args.at c.requires.stands.0 c.requires.there c.requires.stands.1))
     (lines_where _ _ _ _ _

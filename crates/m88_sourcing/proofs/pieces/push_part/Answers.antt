@@ -26,14 +26,14 @@ loop-done-preserved c = record {
   whole =
       told_up_to c.args.at c.loop-done.done c.in_ok-len.len _ _ c.loop-done-test.true
       c.split_at.ensures.back_len c.in_ok-len.ensures.whole;
-  so_far = λ entries is.
-      more_front (ArePieceLines (λ _. []) c.args.image.now entries) c.args.at c.loop-done.done
+  so_far = λ said is.
+      more_front (ArePieceLines (λ _. []) c.args.image.now said) c.args.at c.loop-done.done
       c.in_ok-len.len c.args.bytes.now c.split_at.result.1.now c.args.text.now.items c.loop-done.text.items
-      c.push_piece.new.text.items c.split_at.ensures.back (c.loop-done.invariant.so_far entries is)
-      (c.in_ok-len.ensures.lines entries is);
+      c.push_piece.new.text.items c.split_at.ensures.back (c.loop-done.invariant.so_far said is)
+      (c.in_ok-len.ensures.lines said is);
 }
 
 pub returns : goal.returns
-returns c = λ entries is.
-    all_front (ArePieceLines (λ _. []) c.args.image.now entries) (λ a. no_piece) c.args.at c.loop-done.done
-    c.args.bytes.now _ _ (omega arith) (c.loop-done.invariant.so_far entries is)
+returns c = λ said is.
+    all_front (ArePieceLines (λ _. []) c.args.image.now said) (λ a. no_piece) c.args.at c.loop-done.done
+    c.args.bytes.now _ _ (omega arith) (c.loop-done.invariant.so_far said is)
