@@ -37,7 +37,8 @@ _m88_source() {
 }
 complete -o default -F _m88_source m88source ./m88source
 # Of contrib/bench a source or records, then the words of its board; of contrib/session these words; of contrib/own the letters
-# of a shared run; of contrib/many a folder, then what its inputs are. contrib/ticks takes two numbers.
+# of a shared run; of contrib/many a folder, then what its inputs are. contrib/ticks takes two numbers, contrib/entries the
+# words of `m88 trace`.
 _m88_beside() {
   local word=${COMP_WORDS[COMP_CWORD]} choices=
   case ${COMP_WORDS[0]##*/}:$COMP_CWORD in
@@ -49,7 +50,9 @@ _m88_beside() {
     session:4) choices="mxm" ;;
     own:1) choices="- i r e t" ;;
     many:2) choices="soak schedules pages again" ;;
+    entries:2) choices="none all" ;;
+    entries:3) choices="- i r e" ;;
   esac
   COMPREPLY=($(compgen -W "$choices" -- "$word"))
 }
-complete -o default -F _m88_beside bench session own many
+complete -o default -F _m88_beside bench session own many entries
