@@ -165,6 +165,7 @@ class Source(File):
         self.path, self.imports, self.definitions = path, {}, {}
         with open(path, encoding="utf-8") as file:
             lines = file.read().split("\n")
+        self.uses = dict(self.uses_in("\n".join(lines)))
         for k, line in enumerate(lines):
             found = re.match(r"pub (?:struct|enum|const) (\w+)", line)
             if found:
@@ -175,6 +176,20 @@ class Source(File):
                 item = Type(self, found.group(1), [part for part in lines[first:k] if part.startswith("///")])
                 item.text = lines[k:last + 1]
                 self.definitions[item.name] = item
+
+    @staticmethod
+    def uses_in(text):
+        """The crate of each name that the file uses of a crate of this repository, its own as `crate`."""
+        for crate, many, one in re.findall(r"^use (crate|m88_\w+)(?:::\w+)*::(?:\{([^}]*)\}|(\w+));", text, re.M):
+            for name in (many or one).split(","):
+                yield name.strip(), crate
+
+    def used(self, name):
+        """The public type of that name in the crate that the file uses it of, or None."""
+        own = os.path.relpath(self.path, CRATES).split(os.sep)[0]
+        crate = self.uses.get(name, "").replace("crate", own)
+        paths = sorted(glob.glob(os.path.join(CRATES, crate, "src", "**", "*.rt"), recursive=True)) if crate else []
+        return next((found for path in paths if (found := Source.at(path).definitions.get(name))), None)
 
 
 class Type(Definition):
@@ -191,44 +206,31 @@ class Type(Definition):
         return Source.at(path).definitions.get(parts[-1]) if os.path.exists(path) else None
 
     def meant(self, word):
-        """The public type of its crate, or of one below, that a word of its text means."""
-        if not word[:1].isupper() or word == self.name:
+        """The public type that a word of its text means, where a field or a variant has it: of its file, or one that it uses."""
+        if word == self.name or word not in self.types():
             return None
-        crate = os.path.relpath(self.file.path, CRATES).split(os.sep)[0]
-        return TYPES.get((crate, word)) or next((found for (_, name), found in TYPES.items() if name == word), None)
+        return self.file.definitions.get(word) or self.file.used(word)
 
-
-class Types(dict):
-    """The public types of src/ by crate and name, read once they are asked for."""
-
-    def __missing__(self, key):
-        if not self:
-            for path in sorted(glob.glob(os.path.join(CRATES, "*", "src", "**", "*.rt"), recursive=True)):
-                for name, item in Source.at(path).definitions.items():
-                    self[os.path.relpath(path, CRATES).split(os.sep)[0], name] = item
-            return self.get(key)
-        return None
-
-    def get(self, key, default=None):
-        return self[key] if not len(self) else dict.get(self, key, default)
-
-
-TYPES = Types()
+    def types(self):
+        """The words of its text that stand where a type does: after a colon, or in brackets."""
+        text = "\n".join(line for line in self.text if is_code(line))
+        return set(re.findall(r"\w+", " ".join(after + within for after, within in re.findall(r": ([^{}\n]*)|\(([^()]*)\)", text))))
 
 
 class Call:
     """A function of src/: the text of each of its clauses, and the file that its ghost imports stand in."""
 
-    def __init__(self, path, function):
+    def __init__(self, path, function, owner=None):
         with open(path, encoding="utf-8") as file:
             text = file.read()
         self.path, self.imports, self.definitions = path, {}, {}
         for line in text.split("\n"):
             if line.startswith("ghost use "):
                 File.take_import(self, line.removeprefix("ghost ").rstrip(";"))
-        start = re.search(rf"fn {function}\b", text).start()
-        end = text.find("\n{\n", start)
-        self.clauses = dict(clauses_in(text[start:end if end >= 0 else len(text)]))
+        within = re.search(rf"^(?:impl\b.*|(?:pub )?trait ){owner}\b", text, re.M).start() if owner else 0
+        start = within + re.search(rf"fn {function}\b", text[within:]).start()
+        body = re.search(r"\n *\{\n|;\n", text[start:])
+        self.clauses = dict(clauses_in(text[start:start + body.start() if body else len(text)]))
 
     meant = File.meant
 
