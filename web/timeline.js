@@ -71,7 +71,7 @@ function cellOf(run, k) {
   };
   switch (c.kind) {
     case "start": return { lines: [], fill: "none" };
-    case "issue": return { lines: [c.parts[0], ...brokenText(c.parts[1])], fill: "--band", edge: "--line" };
+    case "issue": return { lines: [c.parts[0], ...brokenText(c.parts[1]), ...inHexadecimal(c.parts[1])], fill: "--band", edge: "--line" };
     case "output": return { lines: [c.parts[0], "trap", "out", byteShown(c.parts[1])], fill: "--band", edge: "--line" };
     case "bubble": return { lines: [next(), "bubble", "passed", "over"], fill: "--bubble", edge: "--bubble-line", dash: "4 2" };
     case "busy": return held(`${c.parts[0]} waits`);
