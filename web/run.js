@@ -76,8 +76,7 @@ function faultOf(run, k) {
 
 // The numbers of an instruction's text from 256 up, in hexadecimal, as addresses are shown.
 const inHexadecimal = (text) => (text.match(/(?<!\w)\d+/g) ?? []).filter((n) => n > 255).map((n) => `0x${Number(n).toString(16).toUpperCase()}`);
-// The instruction that an event issued, with its address.
-const spelled = (c) => `${[c.parts[1], ...inHexadecimal(c.parts[1]).map((n) => `(${n})`)].join(" ")} at ${c.parts[0]}`;
+const spelled = (c) => `${[c.parts[1], ...inHexadecimal(c.parts[1]).map((n) => `(${n})`)].join(" ")} at ${c.parts[0]}`; // of an issue
 // What is pending after an event. Bars begin in order, and at most three are pending.
 function pendingAt(run, k) {
   const out = [];
