@@ -59,8 +59,8 @@ function limited(bytes, pages) {
 // The answer of the worker itself.
 function answered({ program, words, input, pages }) {
   globalThis.onmessage({ data: { number: 1, module: moduleOf(program, pages), words: ofBase64(words), input: ofBase64(input) } });
-  const { status, output, told, memory } = answer;
-  return { status, output: inBase64(output), told: inBase64(told), memory };
+  const { status, output, told, memory, time } = answer;
+  return { status, output: inBase64(output), told: inBase64(told), memory, time };
 }
 
 function failing({ program, words, input, fail }) {
