@@ -13,6 +13,7 @@ mod instructions;
 
 // whole runs
 mod handing;
+mod handlers;
 mod paging;
 mod report;
 mod sharing;
