@@ -34,7 +34,7 @@ IsRefusedIn None input r = IsRefusedRecords input r
 IsRefusedIn (Some at) input r = ReachesPast at input × (r ≡ binary_refusal)
 
 -- an input is accepted: S-records that write some bytes and a start, or a binary none of whose bytes would lie past the
--- last address
+-- last address. One of more than 1048576 bytes is no input: it is answered as too long before that.
 abbrev pub IsAcceptedIn : Option ℕ → List ℕ → Type 0
 IsAcceptedIn None input = IsRecords input
 IsAcceptedIn (Some at) input = ¬ ReachesPast at input
