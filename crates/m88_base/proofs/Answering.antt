@@ -1,13 +1,17 @@
 -- What a filter answers, from what it read, its reply, and what the reply's writing says.
-use Rattle.std.proofs.Common.{◌≡◌, ◌⊎◌, ℕ, ◌<◌, List, Option, Some, Bool, true, false, IfSome, inl, inr, length, refl, subst, sym, ◌∙◌}
-use Rattle.std.specs.Prelude.{MatchBool}
+use Rattle.std.proofs.Common.{◌≡◌, ◌≢◌, ◌⊎◌, ℕ, ◌<◌, List, Option, Some, None, Bool, true, false, IfSome, inl, inr, length, refl, subst, sym, ◌∙◌}
+use Rattle.std.specs.Prelude.{MatchBool, MatchOption, is_none}
+use Rattle.std.specs.Option.{option_map}
 use Rattle.std.specs.Io.KnownBytes.{Appends}
 use Rattle.std.proofs.KnownBytes.{Consumes-whole}
 use Rattle.m88_base.specs.Calls.{CallsWithin}
-use Rattle.m88_base.specs.Filter.{AnswersFor, AnswersInput}
+use Rattle.m88_base.specs.Filter.{AnswersFor, AnswersInput, TellsRefused}
 use Rattle.m88_base.specs.Outside.{AppendsPart, GivesAll}
-use Rattle.m88_base.specs.Reply.{AnswersAs}
+use Rattle.m88_base.specs.Refusal.{Refusal}
+use Rattle.m88_base.specs.Reply.{AnswersAs, AnswersRefusal, RefusesAs, accepts, refusal_of}
 use Rattle.m88_base.specs.Status.{Answers, WritesNothing}
+use Rattle.m88_base.specs.declared.refused.Refused.{Refused as Told}
+use Rattle.m88_base.specs.declared.reply.Answer.{Answer}
 use Rattle.m88_base.specs.declared.reply.Reply.{Reply}
 use Rattle.m88_base.specs.declared.status.Status.{Status}
 use Rattle.m88_base.specs.declared.status.Status.TheVariants.{Done, SinkFault, Refused}
@@ -31,6 +35,43 @@ by_refusal : (AcceptedWith RefusedWith : List ℕ → List ℕ → Type 0) → A
 by_refusal AcceptedWith RefusedWith verdicts input text told of true h = absurd (verdicts.not_both input told text h of)
 by_refusal AcceptedWith RefusedWith verdicts input text told of false h = (refl, verdicts.one_refusal input told text h of)
 
+-- a reply with the same text and refusal, which may show a line, answers alike and refuses alike
+module _ (reply shown : Reply) (text : shown.text ≡ reply.text) (told : refusal_of shown ≡ refusal_of reply) where
+  accepts_alike : accepts shown ≡ accepts reply
+  accepts_alike = by shown.refused reply.refused told
+    where
+      by : (a b : Option Told) → option_map (λ (r : Told). r.refusal) a ≡ option_map (λ (r : Told). r.refusal) b → is_none a ≡ is_none b
+      by None None e = refl
+      by None (Some r) e = absurd cc
+      by (Some r) None e = absurd cc
+      by (Some r) (Some q) e = refl
+
+  pub answers_alike : (IsAccepted IsRefused : List ℕ → Type 0) → AnswersAs IsAccepted IsRefused reply → AnswersAs IsAccepted IsRefused shown
+  answers_alike IsAccepted IsRefused h = rw (accepts_alike, text) h
+
+  pub refuses_alike : (IsRefusal : Refusal → Type 0) → RefusesAs IsRefusal reply → RefusesAs IsRefusal shown
+  refuses_alike IsRefusal h = by shown.refused reply.refused told h
+    where
+      by : (a b : Option Told) → option_map (λ (r : Told). r.refusal) a ≡ option_map (λ (r : Told). r.refusal) b
+          → IfSome b (λ r. IsRefusal r.refusal) → IfSome a (λ r. IsRefusal r.refusal)
+      by None b e h = tt
+      by (Some r) None e h = absurd cc
+      by (Some r) (Some q) e h = let same : r.refusal ≡ q.refusal = cc in subst IsRefusal (sym same) h
+
+-- a filter that refused nothing tells of no refusal, and one whose reply was written tells that of the reply
+pub tells_refused : {S : Type 0} (left : S → Option (List ℕ)) (source source_after : S) (IsRefusedSo : List ℕ → Told → Type 0)
+    (reply : Reply) (answer : Answer)
+    → ((input : List ℕ) × GivesAll (left source) (left source_after) input × IfSome reply.refused (IsRefusedSo input))
+    → AnswersRefusal reply answer → TellsRefused left source source_after IsRefusedSo answer
+tells_refused left source source_after IsRefusedSo reply answer ok told = by answer.refused told
+  where
+    by : (refused : Option Told)
+        → MatchOption refused (answer.status ≢ Refused) (λ r. (answer.status ≡ Refused) × (reply.refused ≡ Some r))
+        → MatchOption refused (answer.status ≢ Refused) (λ r. (answer.status ≡ Refused)
+        × (input : List ℕ) × GivesAll (left source) (left source_after) input × IsRefusedSo input r)
+    by None h = h
+    by (Some r) h = (h.0, ok.0, ok.1, subst (λ o. IfSome o (IsRefusedSo ok.0)) h.1 ok.2)
+
 module _ {S K : Type 0} (left : S → Option (List ℕ)) (held : K → Option (List ℕ)) (calls : K → Option ℕ)
     (AcceptedWith RefusedWith : List ℕ → List ℕ → Type 0) (source source_after : S) where
   -- a filter that wrote nothing
@@ -49,8 +90,8 @@ module _ {S K : Type 0} (left : S → Option (List ℕ)) (held : K → Option (L
       (ok : (input : List ℕ) × GivesAll (left source) (left source_after) input
       × AnswersAs (AcceptedWith input) (RefusedWith input) reply)
       (written : ¬ WritesNothing status)
-      (done : status ≡ Done → (reply.accepted ≡ true) × Appends (held sink) (held sink_after) reply.text.items)
-      (refused : status ≡ Refused → (reply.accepted ≡ false) × Appends (held sink) (held sink_after) reply.text.items) where
+      (done : status ≡ Done → (accepts reply ≡ true) × Appends (held sink) (held sink_after) reply.text.items)
+      (refused : status ≡ Refused → (accepts reply ≡ false) × Appends (held sink) (held sink_after) reply.text.items) where
     -- it replied to this input
     abbrev Replied : List ℕ → Type 0
     Replied input = AnswersAs (AcceptedWith input) (RefusedWith input) reply
@@ -88,11 +129,11 @@ module _ {S K : Type 0} (left : S → Option (List ℕ)) (held : K → Option (L
       done = λ e. with_text (rw (done e).0 at ok.2) ((done e).1, within);
       refused = λ e. with_text (rw (refused e).0 at ok.2) ((refused e).1, within);
       refusal = λ input text of had whole.
-          let told = by_refusal AcceptedWith RefusedWith verdicts input text reply.text.items of reply.accepted (had_reply input had) in
+          let told = by_refusal AcceptedWith RefusedWith verdicts input text reply.text.items of (accepts reply) (had_reply input had) in
           only_refused status written
           (λ e. let clash : true ≡ false = sym (done e).0 ∙ told.0 in absurd cc)
           (λ e. not_part (held sink) (held sink_after) text
           (subst (λ t. AppendsPart (held sink) (held sink_after) t) told.1 (part e)) whole);
-      part = λ e. with_text (by_accepted (AcceptedWith ok.0 reply.text.items) (RefusedWith ok.0 reply.text.items) reply.accepted ok.2)
+      part = λ e. with_text (by_accepted (AcceptedWith ok.0 reply.text.items) (RefusedWith ok.0 reply.text.items) (accepts reply) ok.2)
           (part e, within);
     }

@@ -62,5 +62,6 @@ pub use Rattle.m88_base.proofs.Known.{consumes_front, consumes_more, length_fron
 pub use Rattle.m88_base.proofs.Wholly.{not_part, not_whole}
 -- a program that has no text wrote nothing, and one that wrote ended in one of three ways
 pub use Rattle.m88_base.proofs.Wholly.{answered, none_of_reading, only_refused}
--- Filters: what one answers that wrote nothing, what one whose reply was written, and that an input of it is answered.
-pub use Rattle.m88_base.proofs.Answering.{AreVerdicts, answers_input, answers_nothing, answers_reply}
+-- Filters: what one answers that wrote nothing, what one whose reply was written, that an input of it is answered,
+-- what it tells of a refusal, and that a reply answers and refuses alike where its refusal shows a line.
+pub use Rattle.m88_base.proofs.Answering.{AreVerdicts, answers_input, answers_nothing, answers_reply, answers_alike, refuses_alike, tells_refused}

@@ -1,5 +1,5 @@
 -- The first line of a source, found by its LF.
-use Rattle.std.proofs.Common.{◌≡◌, ◌≢◌, ℕ, suc, ◌<◌, ◌≤◌, Bool, true, false, cond, not, ◌&&◌, ◌==◌, List, [], ◌∷◌, ◌++◌, length, take, drop, refl, sym, ap, ◌∙◌, arith, eqb-true, ne_eqb}
+use Rattle.std.proofs.Common.{◌≡◌, ◌≢◌, ℕ, suc, ◌<◌, ◌≤◌, Bool, true, false, cond, not, ◌&&◌, ◌==◌, List, [], ◌∷◌, ◌++◌, length, take, drop, refl, sym, ap, ◌∙◌, arith, eqb-true, ne_eqb, slice_get, Option, None}
 use Rattle.std.specs.List.{prefix_len}
 use Rattle.m88_base.specs.Lines.{IsOneLine, lines_of, begins_with_lf, behind_line, on_first_line}
 use Rattle.m88_base.specs.Inside.LineEnd.{without_cr}
@@ -12,6 +12,12 @@ is_inner b = not (b == 10)
 pub no_lines : lines_of [] ≡ []
 unfolding lines_of
 no_lines = refl
+
+-- where nothing is left, no line has a number
+pub none_numbered : (rest : List ℕ) (k : ℕ) (line : Option (List ℕ)) → true ≡ (length rest == 0) → slice_get (lines_of rest) k ≡ line → line ≡ None
+unfolding lines_of
+none_numbered [] k line empty is = sym is
+none_numbered (b ∷ bs) k line empty is = let e : length (b ∷ bs) ≡ 0 = eqb-true (length (b ∷ bs)) 0 (sym empty) in absurd (omega (arith, e))
 
 -- a byte before a line end or before another byte
 pub front_by : (b : ℕ) (bs : List ℕ) (v w : Bool) → (b == 10) ≡ v → (b == 13 && begins_with_lf bs) ≡ w

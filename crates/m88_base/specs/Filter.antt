@@ -1,12 +1,14 @@
 -- What a filter does, a program between a source and a sink. Of a source or a sink that doesn't tell its bytes or its
 -- calls, nothing is said of these.
-use Rattle.std.specs.Prelude.{ℕ, ◌≡◌, ◌≢◌, ◌↔◌, ◌⊎◌, ◌+◌, ◌≤◌, List, Option, Some, length}
+use Rattle.std.specs.Prelude.{ℕ, ◌≡◌, ◌≢◌, ◌↔◌, ◌⊎◌, ◌+◌, ◌≤◌, List, Option, Some, MatchOption, length}
 use Rattle.std.specs.Io.KnownBytes.{Appends}
 use Rattle.m88_base.specs.Calls.{CallsWithin}
 use Rattle.m88_base.specs.Causes.{Rose}
 use Rattle.m88_base.specs.Outside.{AppendsPart, GivesAll, IsWhole, TakesAtMost, TakesExactly}
 use Rattle.m88_base.specs.Reading.{most_input}
 use Rattle.m88_base.specs.Status.{Answers, IsAnswered, WritesNothing}
+use Rattle.m88_base.specs.declared.refused.Refused.{Refused as Told}
+use Rattle.m88_base.specs.declared.reply.Answer.{Answer}
 use Rattle.m88_base.specs.declared.status.Status.{Status}
 use Rattle.m88_base.specs.declared.status.Status.TheVariants.{Done, Refused, SinkFault, SourceFault, TooLong, Usage}
 
@@ -86,3 +88,26 @@ abbrev pub AnswersUnfailed : {S K : Type 0} → (S → ℕ) → (K → ℕ) → 
 AnswersUnfailed source_faults sink_faults source source_after sink sink_after IsInput IsAccepted status =
     (input : List ℕ) → IsInput input → ¬ Rose (source_faults source) (source_faults source_after)
     → ¬ Rose (sink_faults sink) (sink_faults sink_after) → Answers (IsAccepted input) status
+
+-- what is answered of a refusal: none where the filter ends with any other status; else the input was read to its end,
+-- and is refused so
+abbrev pub TellsRefused : {S : Type 0} → (S → Option (List ℕ)) → S → S → (List ℕ → Told → Type 0) → Answer → Type 0
+TellsRefused left source source_after IsRefusedSo answer =
+    MatchOption answer.refused (answer.status ≢ Refused)
+    (λ told. (answer.status ≡ Refused) × (input : List ℕ) × GivesAll (left source) (left source_after) input
+    × IsRefusedSo input told)
+
+-- what a filter does with its words, its source and its sink, where it ends with this status
+pub record Filters {S K : Type 0} (left : S → Option (List ℕ)) (source_calls : S → Option ℕ) (source_faults : S → ℕ)
+    (held : K → Option (List ℕ)) (sink_calls : K → Option ℕ) (sink_faults : K → ℕ) (source source_after : S)
+    (sink sink_after : K) (Untaken : Type 0) (AcceptedWith RefusedWith : List ℕ → List ℕ → Type 0)
+    (status : Status) : Type 0 where
+  -- the words that it doesn't take are answered Usage, and no others; then nothing is read
+  pub usage : UsageFor Untaken source source_after status
+  -- it makes at most two calls more of the source than an input may have bytes; a source or a sink is blamed only for
+  -- what it did, and no failure is passed over; without a text nothing is written
+  pub reading : ReadsFor left source_calls source_faults source source_after status
+  pub writing : WritesFor sink_faults sink sink_after status
+  -- it ends with Done or Refused by what the input is, which was read to its end, and the sink was given the text for
+  -- that; where the sink failed it was given a front of the text
+  pub answers : AnswersFor left held sink_calls source source_after sink sink_after AcceptedWith RefusedWith status

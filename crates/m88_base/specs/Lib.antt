@@ -15,6 +15,7 @@ pub mod Numerals
 pub mod Hex
 pub mod Refused
 pub mod Refusal
+pub mod Shown
 pub mod Causes
 pub mod Calls
 pub mod Outside

@@ -1,6 +1,6 @@
 -- The lines of an input. A line ends by LF, by CR LF or with the input; a line end that is the last thing in the input
 -- opens no further line, and an empty input has no line.
-use Rattle.std.specs.Prelude.{ℕ, ◌≡◌, ◌≢◌, Bool, false, List, [], ◌∷◌, ◌++◌, ◌==◌, ◌&&◌, flat_map, if◌then◌else◌}
+use Rattle.std.specs.Prelude.{ℕ, ◌≡◌, ◌≢◌, Bool, false, List, [], ◌∷◌, ◌++◌, ◌==◌, ◌&&◌, ◌-◌, Option, flat_map, if◌then◌else◌, slice_get}
 
 -- the byte that ends a line
 abbrev pub line_feed : ℕ
@@ -44,3 +44,7 @@ lines_of [] = []
 lines_of (b ∷ bs) =
     if b == line_feed then [] ∷ lines_of bs
     else (if b == carriage_return && begins_with_lf bs then lines_of bs else on_first_line b (lines_of bs))
+
+-- the line of a number, from 1
+abbrev pub line_numbered : List ℕ → ℕ → Option (List ℕ)
+line_numbered input number = slice_get (lines_of input) (number - 1)

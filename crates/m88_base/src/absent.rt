@@ -24,7 +24,7 @@ pub enum Absent {
 }
 
 impl Absent {
-    /// The same choice once more. It takes no memory.
+    /// A copy of the choice, which takes no memory.
     pub fn copy(&self) -> Absent
         ensures { result ≡ self.now }
     {
@@ -36,7 +36,7 @@ impl Absent {
     }
 }
 
-/// The same numbers once more.
+/// A copy of page numbers.
 fn copied(pages: &ArrayVec<u32, 64>) -> ArrayVec<u32, 64>
     ensures { result ≡ pages.now }
 {

@@ -35,7 +35,7 @@ impl Block {
         Ok(Block { runs })
     }
 
-    /// The same runs, each with bytes of its own.
+    /// A copy of the runs, each with bytes of its own.
     pub fn copy(&self, alloc: Global) -> Result<Block, AllocError>
         ensures { IfOk result (λ copy. copy ≡ self.now) }
     {

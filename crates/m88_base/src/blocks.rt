@@ -48,7 +48,7 @@ impl Blocks {
         }
     }
 
-    /// The same runs, each with bytes of its own.
+    /// A copy of the runs, each with bytes of its own.
     pub fn copy(&self, alloc: Global) -> Result<Blocks, AllocError>
         ensures { IfOk result (λ copy. copy ≡ self.now) }
     {

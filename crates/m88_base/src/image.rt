@@ -80,7 +80,7 @@ impl Image {
         }
     }
 
-    /// The same image with bytes of its own.
+    /// A copy of the image, with bytes of its own.
     pub fn copy(&self, alloc: Global) -> Result<Image, NoMemory>
         ensures { IfOk result (λ image. image ≡ self.now) }
     {

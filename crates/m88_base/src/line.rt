@@ -1,6 +1,6 @@
 //! The lines of an input, one by one.
-ghost use Rattle.std.specs.Prelude.{◌≡◌, ◌<◌, ◌≤◌, ◌∷◌, length};
-ghost use Rattle.m88_base.specs.Lines.{behind_line, lines_of};
+ghost use Rattle.std.specs.Prelude.{◌≡◌, ◌<◌, ◌≤◌, ◌∷◌, None, Some, MatchOption, length};
+ghost use Rattle.m88_base.specs.Lines.{behind_line, line_numbered, lines_of};
 ghost use Rattle.m88_base.specs.Inside.LineEnd.{without_cr};
 
 use crate::cut::len_before;
@@ -30,4 +30,26 @@ pub fn first_line(rest: &[u8]) -> (&[u8], &[u8])
         [] => (line, after),
         [_, after @ ..] => (without_cr(line), after),
     }
+}
+
+/// The line of an input that has a number, from 1, without its line end; None where the input has fewer lines.
+pub fn line_numbered(input: &[u8], number: u64) -> Option<&[u8]>
+    ensures { MatchOption result (line_numbered input.now number ≡ None)
+        (λ line. line_numbered input.now number ≡ Some line.now) }
+{
+    let mut rest = input;
+    let mut before = number.saturating_sub(1);
+    while before > 0 {
+        if rest.is_empty() {
+            return None;
+        }
+        let (_, behind) = first_line(rest);
+        rest = behind;
+        before -= 1;
+    }
+    if rest.is_empty() {
+        return None;
+    }
+    let (line, _) = first_line(rest);
+    Some(line)
 }

@@ -1,9 +1,11 @@
-//! The refusal of an input, and the line that says so.
-ghost use Rattle.std.specs.Prelude.{◌≡◌, ◌++◌, IfOk, OnOk, string_bytes};
+//! The refusal of an input, the line that says so, and the line of the input that it is at.
+ghost use Rattle.std.specs.Prelude.{◌≡◌, ◌++◌, IfOk, OnOk, None, string_bytes};
 ghost use Rattle.m88_base.specs.Refused.{refused_line};
 ghost use Rattle.m88_base.specs.Refusal.{refusal_line};
+ghost use Rattle.m88_base.specs.Shown.{IsShownOf};
 
 use crate::failing::NoMemory;
+use crate::line::line_numbered;
 use crate::numerals::push_decimal;
 use std::alloc::{AllocError, Global};
 use std::marker::Model;
@@ -37,6 +39,38 @@ impl Refusal {
         }
     }
 
+    /// A copy of the refusal, with a reason of its own.
+    pub fn copy(&self, alloc: Global) -> Result<Refusal, NoMemory>
+        ensures { IfOk result (λ refusal. refusal ≡ self.now) }
+    {
+        Ok(Refusal {
+            line: self.line,
+            column: self.column,
+            reason: String::from_str(alloc, self.reason.as_str())?,
+        })
+    }
+
+    /// The line of the input, from 1.
+    pub fn line(&self) -> u64
+        ensures { result ≡ self.now.line }
+    {
+        self.line
+    }
+
+    /// The column of that line, from 1.
+    pub fn column(&self) -> u32
+        ensures { result ≡ self.now.column }
+    {
+        self.column
+    }
+
+    /// The reason as it is written.
+    pub fn reason(&self) -> &[u8]
+        ensures { result.now ≡ self.now.reason }
+    {
+        self.reason.as_bytes()
+    }
+
     /// The line `refused LINE:COL REASON` with its line end.
     pub fn text(&self, alloc: Global) -> Result<Vec<u8>, NoMemory>
         ensures { IfOk result (λ text. text.items ≡ refusal_line self.now) }
@@ -44,6 +78,41 @@ impl Refusal {
         let mut text = Vec::new(alloc);
         push_refused(&mut text, self.line, self.column, self.reason.as_bytes())?;
         Ok(text)
+    }
+}
+
+/// The refusal of an input, and the line of the input that it is at, without its line end: None where the input has no
+/// such line or isn't kept as a text.
+#[derive(Debug, Drop)]
+pub struct Refused {
+    pub refusal: Refusal,
+    pub line: Option<Vec<u8>>,
+}
+
+impl Refused {
+    /// A refusal of an input that isn't kept as a text.
+    pub fn unshown(refusal: Refusal) -> Refused
+        ensures { result ≡ record { refusal = refusal; line = None } }
+    {
+        Refused {
+            refusal,
+            line: None,
+        }
+    }
+
+    /// This refusal, with the line of the input that it is at.
+    pub fn showing(self, alloc: Global, input: &[u8]) -> Result<Refused, NoMemory>
+        ensures same { IfOk result (λ refused. refused.refusal ≡ self.refusal) }
+        ensures shown { IfOk result (IsShownOf input.now) }
+    {
+        let line = match line_numbered(input, self.refusal.line) {
+            Some(line) => Some(Vec::from_slice(alloc, line)?),
+            None => None,
+        };
+        Ok(Refused {
+            refusal: self.refusal,
+            line,
+        })
     }
 }
 

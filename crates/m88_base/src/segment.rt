@@ -62,7 +62,7 @@ impl Segment {
         })
     }
 
-    /// The same run with bytes of its own.
+    /// A copy of the run, with bytes of its own.
     pub fn copy(&self, alloc: Global) -> Result<Segment, AllocError>
         ensures { IfOk result (λ run. run ≡ self.now) }
     {

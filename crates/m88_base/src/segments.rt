@@ -38,7 +38,7 @@ impl Segments {
         }
     }
 
-    /// The same runs, each with bytes of its own.
+    /// A copy of the runs, each with bytes of its own.
     pub fn copy(&self, alloc: Global) -> Result<Segments, AllocError>
         ensures { IfOk result (λ copy. copy ≡ self.now) }
     {
