@@ -202,7 +202,7 @@ impl Assembly {
         fill(section, &mut self.uses, number, line, body)
     }
 
-    /// The same with a body that is handed over.
+    /// Fills the current section with a statement's body that is handed over, at a line from 1.
     fn consume_body(&mut self, line: u32, body: Body) -> Result<(), AllocError>
         requires formed { IsFormedBody body }
         requires few { length self.old.sections < 2 ^ 32 }

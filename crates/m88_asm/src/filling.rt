@@ -181,7 +181,7 @@ pub(crate) fn fill(
     }
 }
 
-/// The same with a body that is handed over: a list of bytes that begins its section isn't copied.
+/// Appends a statement's body that is handed over to its section: a list of bytes that begins the section isn't copied.
 pub(crate) fn consume_body(
     section: &mut Growing,
     uses: &mut Vec<Reloc>,

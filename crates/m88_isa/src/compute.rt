@@ -143,7 +143,8 @@ fn unsigned_sum(carry_out: bool, carry_in: bool, carry: bool, s: u32, t: u32) ->
     }
 }
 
-/// The same sum, where the exact signed one fits a word.
+/// The low word of s + t and a carry in, or an overflow where the exact signed sum doesn't fit a word; the carry out is
+/// set as by `unsigned_sum`.
 fn signed_sum(carry_out: bool, carry_in: bool, carry: bool, s: u32, t: u32) -> Computed
     ensures { result ≡ signed_sum carry_out carry_in carry s t }
 {

@@ -4,9 +4,9 @@
 /// What the monitor does for a program that traps.
 #[derive(Clone, Copy, PartialEq, Eq, Debug)]
 pub enum Service {
-    /// It puts this byte out.
+    /// The monitor puts this byte out.
     Out(u8),
-    /// It ends the program.
+    /// The monitor ends the program.
     End,
     /// Nothing: the trap isn't one that it serves.
     Unserved,

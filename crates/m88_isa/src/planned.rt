@@ -6,11 +6,11 @@ use m88_base::Reg;
 /// What one instruction does.
 #[derive(Clone, Copy, PartialEq, Eq, Debug)]
 pub enum Plan {
-    /// It changes registers, carry, memory or the flow of the program as the effect says.
+    /// The instruction changes registers, carry, memory or the flow of the program as the effect says.
     Go(Effect),
-    /// It raises an exception of this vector and changes nothing.
+    /// The instruction raises an exception of this vector and changes nothing.
     Raise(u16),
-    /// It is a taken trap with this vector, from 128 up.
+    /// The instruction is a taken trap with this vector, 128 to 511.
     Trap(u16),
 }
 
@@ -83,9 +83,9 @@ pub enum Outline {
         d: Reg,
         place: u32,
     },
-    /// It raises an exception of this vector and changes nothing.
+    /// The instruction raises an exception of this vector and changes nothing.
     Raise(u16),
-    /// It is a taken trap with this vector, from 128 up.
+    /// The instruction is a taken trap with this vector, 128 to 511.
     Trap(u16),
 }
 

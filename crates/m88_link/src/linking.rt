@@ -85,7 +85,7 @@ pub fn link_forced(
     link_all(alloc, true, objects)
 }
 
-/// The same, which goes on behind a fault that names a symbol or ends at it.
+/// Links objects, and goes on behind a fault that names a symbol, or ends at it.
 fn link_all(
     alloc: Global,
     goes_on: bool,

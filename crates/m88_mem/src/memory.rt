@@ -193,7 +193,7 @@ impl Memory {
         self.make_ready(addr)
     }
 
-    /// The same of a page that isn't ready yet, apart from the question that is asked ahead of each store.
+    /// Makes ready a page that isn't yet, apart from the question that is asked ahead of each store.
     // Not inlined, so that what is rare stays out of the way: of all stores to a page only the first comes here.
     #[inline(never)]
     fn make_ready(&mut self, addr: u32) -> Result<(), NoMemory>
@@ -414,7 +414,7 @@ fn image_frame(alloc: Global, image: &Image, page: u32) -> Result<PageFrame, NoM
     }
 }
 
-/// The same, word by word from the bytes of the page.
+/// The frame of a page, made word by word from the bytes that the image has there.
 // Not inlined, so that a page without a byte needs no room for the bytes of a page.
 #[inline(never)]
 fn copied_frame(alloc: Global, image: &Image, page: u32) -> Result<PageFrame, NoMemory>

@@ -15,7 +15,7 @@ use m88_isa::{BitOp, ImmOp, Instr, LdaSize, MemOp, RegOp};
 /// The reach of a target in 26 bits: words forward, one less than back.
 const FAR: u32 = 1 << 25;
 
-/// The same in 16 bits.
+/// The reach of a target in 16 bits: words forward, one less than back.
 const NEAR: u32 = 1 << 15;
 
 /// The most that a vector can be.

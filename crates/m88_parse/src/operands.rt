@@ -148,7 +148,7 @@ impl<'a> Parser<'a> {
         Ok(Index::Offset(self.operand()?))
     }
 
-    /// The same of a register alone, and whether it is scaled.
+    /// The register behind the base register of an access by `.usr`, and whether it is scaled.
     #[tactic(auto, unfolding(crate::specs::Inside::Operands::user_index_at))]
     pub fn user_index(&mut self) -> Result<(Reg, bool), ParseFault>
         ensures { Gives (λ x. (x, self.new)) result (user_index_at self.old) }

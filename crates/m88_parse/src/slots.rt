@@ -98,7 +98,7 @@ impl<'a> Parser<'a> {
         Ok((d, s1))
     }
 
-    /// The same, and the comma behind them.
+    /// The numbers of two general registers with a comma between them and one behind.
     #[tactic(auto, unfolding(crate::specs::Inside::Slots::two_registers_comma_at))]
     pub fn two_registers_comma(&mut self) -> Result<(Reg, Reg), ParseFault>
         ensures { Gives (λ x. (x, self.new)) result (two_registers_comma_at self.old) }

@@ -3,12 +3,12 @@
 /// What a record is for, as its type digit says.
 #[derive(Clone, Copy)]
 pub enum Purpose {
-    /// It heads the text.
+    /// The record heads the text.
     Header,
-    /// It loads data at its address.
+    /// The record loads data at its address.
     Data,
-    /// It tells the number of the records before it that load.
+    /// The record tells how many records before it load.
     Tally,
-    /// It ends the text, and its address is the start address.
+    /// The record ends the text, and its address is the start address.
     End,
 }
