@@ -8,7 +8,7 @@ use Rattle.m88_base.specs.Calls.{CallsWithin}
 use Rattle.m88_base.specs.Filter.{AnswersFor, AnswersInput, TellsRefused}
 use Rattle.m88_base.specs.Outside.{AppendsPart, GivesAll}
 use Rattle.m88_base.specs.Refusal.{Refusal}
-use Rattle.m88_base.specs.Reply.{AnswersAs, AnswersRefusal, RefusesAs, accepts, refusal_of}
+use Rattle.m88_base.specs.Reply.{AnswersAs, AnswersRefusal, IsRefusalOf, RefusesAs, accepts, refusal_of}
 use Rattle.m88_base.specs.Status.{Answers, WritesNothing}
 use Rattle.m88_base.specs.declared.refused.Refused.{Refused as Told}
 use Rattle.m88_base.specs.declared.reply.Answer.{Answer}
@@ -57,6 +57,28 @@ module _ (reply shown : Reply) (text : shown.text ≡ reply.text) (told : refusa
       by None b e h = tt
       by (Some r) None e h = absurd cc
       by (Some r) (Some q) e h = let same : r.refusal ≡ q.refusal = cc in subst IsRefusal (sym same) h
+
+-- a reply that is the line of a refusal doesn't accept, and refuses so; one that accepts has no refusal
+pub denies : (r : Refusal) (reply : Reply) → IsRefusalOf r reply → accepts reply ≡ false
+denies r reply h = by reply.refused h.refused
+  where
+    by : (o : Option Told) → option_map (λ (told : Told). told.refusal) o ≡ Some r → is_none o ≡ false
+    by None e = absurd cc
+    by (Some told) e = refl
+
+pub refuses_so : (r : Refusal) (reply : Reply) → IsRefusalOf r reply → (IsRefusal : Refusal → Type 0) → IsRefusal r → RefusesAs IsRefusal reply
+refuses_so r reply h IsRefusal of = by reply.refused h.refused
+  where
+    by : (o : Option Told) → option_map (λ (told : Told). told.refusal) o ≡ Some r → IfSome o (λ told. IsRefusal told.refusal)
+    by None e = tt
+    by (Some told) e = let same : told.refusal ≡ r = cc in subst IsRefusal (sym same) of
+
+pub unrefused : (reply : Reply) (IsRefusal : Refusal → Type 0) → accepts reply ≡ true → RefusesAs IsRefusal reply
+unrefused reply IsRefusal e = by reply.refused e
+  where
+    by : (o : Option Told) → is_none o ≡ true → IfSome o (λ told. IsRefusal told.refusal)
+    by None h = tt
+    by (Some told) h = absurd cc
 
 -- a filter that refused nothing tells of no refusal, and one whose reply was written tells that of the reply
 pub tells_refused : {S : Type 0} (left : S → Option (List ℕ)) (source source_after : S) (IsRefusedSo : List ℕ → Told → Type 0)

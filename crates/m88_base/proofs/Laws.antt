@@ -63,5 +63,6 @@ pub use Rattle.m88_base.proofs.Wholly.{not_part, not_whole}
 -- a program that has no text wrote nothing, and one that wrote ended in one of three ways
 pub use Rattle.m88_base.proofs.Wholly.{answered, none_of_reading, only_refused}
 -- Filters: what one answers that wrote nothing, what one whose reply was written, that an input of it is answered,
--- what it tells of a refusal, and that a reply answers and refuses alike where its refusal shows a line.
-pub use Rattle.m88_base.proofs.Answering.{AreVerdicts, answers_input, answers_nothing, answers_reply, answers_alike, refuses_alike, tells_refused}
+-- what it tells of a refusal, that a reply answers and refuses alike where its refusal shows a line, that the line of a
+-- refusal refuses so, and that what is accepted has no refusal.
+pub use Rattle.m88_base.proofs.Answering.{AreVerdicts, answers_input, answers_nothing, answers_reply, answers_alike, denies, refuses_alike, refuses_so, tells_refused, unrefused}
