@@ -14,9 +14,11 @@ use Rattle.m88_link.specs.Refusal.{IsRefused}
 use Rattle.m88_link.specs.declared.fault.LinkFault.{LinkFault}
 use Rattle.m88_link.specs.declared.fault.LinkKind.{LinkKind}
 use Rattle.m88_link.specs.declared.fault.LinkKind.TheVariants as link
+use Rattle.m88_link.specs.declared.object.Object.{Object}
 use Rattle.m88_asm.specs.Accepted.{IsAcceptedUnit}
 use Rattle.m88_asm.specs.Faults.{IsAssembled, unit_fault}
 use Rattle.m88_asm.specs.Images.{IsUnitImage, IsUnitProgram}
+use Rattle.m88_asm.specs.Objects.{objects_of}
 use Rattle.m88_asm.specs.Reasons.{asm_reason}
 use Rattle.m88_asm.specs.Units.{unit_layout}
 use Rattle.m88_asm.specs.declared.fault.AsmFault.{AsmFault}
@@ -34,6 +36,13 @@ pub record IsProgramSource (source : List ℕ) : Type 0 where
   pub unit : Source
   pub is_unit : IsUnit source unit
   pub is_accepted : IsAcceptedUnit unit
+
+-- the objects are those of the source's unit, whose statements meet no fault
+pub record AreSourceObjects (source : List ℕ) (objects : List Object) : Type 0 where
+  pub unit : Source
+  pub is_unit : IsUnit source unit
+  pub is_assembled : IsAssembled unit
+  pub objects_are : objects ≡ objects_of unit
 
 -- the image is that of the source's unit
 pub record IsSourceImage (source : List ℕ) (image : ProgramImage) : Type 0 where

@@ -12,7 +12,13 @@ mod growing;
 mod image;
 mod objects;
 
+// What a source is made into, or its refusal.
+mod source_fault;
+mod sources;
+
 pub use fault::{AsmFault, AsmKind, UnitFault};
 pub use filling::length_at;
 pub use image::image_of;
 pub use objects::assemble;
+pub use source_fault::unlinked;
+pub use sources::{image_of_source, objects_of_source};

@@ -2,7 +2,6 @@
 pub mod Reading
 pub mod Inputs
 pub mod ScriptWords
-pub mod Linking
 pub mod Placing
 pub mod Drawing
 pub mod Reply

@@ -38,7 +38,6 @@ mod paging;
 mod running;
 mod sharing;
 mod soaking;
-mod source_fault;
 mod sources;
 mod summary;
 mod traces;

@@ -9,10 +9,10 @@ ghost use Rattle.m88_cli.specs.Limits.{most_input};
 ghost use Rattle.m88_base.specs.Words.{texts};
 
 use crate::commands::Command;
-use crate::commands::assembly::image_of_source;
 use crate::commands::numbered::push_numbered_event;
 use crate::grammar::plain_settings;
 use crate::settings::Settings;
+use m88_asm::image_of_source;
 use m88_base::{NoMemory, Reply, accept, push_decimal, push_hex8, refuse};
 use m88_emul::{EmulOutcome, Emulation};
 use m88_report::{push_count, report};

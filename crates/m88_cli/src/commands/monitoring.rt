@@ -10,7 +10,6 @@ ghost use Rattle.m88_cli.specs.Script.{IsScript, script_refusal};
 ghost use Rattle.m88_base.specs.Words.{texts};
 
 use crate::commands::Command;
-use crate::commands::assembly::image_of_source;
 use crate::commands::monitor::carry_out;
 use crate::grammar::opening;
 use crate::limits::SESSION_LIMIT;
@@ -18,6 +17,7 @@ use crate::script::{MonitorCommand, ScriptFault, read_script};
 use crate::script_lines::MOST_COMMANDS;
 use crate::settings::Settings;
 use arrayvec::ArrayVec;
+use m88_asm::image_of_source;
 use m88_base::{Image, NoMemory, Refusal, Reply, accept, refuse};
 use m88_board::Watch;
 use std::alloc::Global;

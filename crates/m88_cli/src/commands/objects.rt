@@ -8,7 +8,7 @@ ghost use Rattle.m88_cli.specs.Limits.{most_input};
 ghost use Rattle.m88_asm.specs.LinkedTexts.{IsRefusedObjects};
 ghost use Rattle.m88_cli.specs.Inside.Reply.{Replies};
 
-use crate::commands::source_fault::unlinked;
+use m88_asm::unlinked;
 use m88_base::{NoMemory, Refusal, Reply, accept, refuse};
 use m88_link::{Object, ObjectFault, link, read_objects};
 use m88_srec::write_srec;

@@ -10,11 +10,11 @@ ghost use Rattle.m88_cli.specs.Answer.Paging.{told_of_paged};
 ghost use Rattle.m88_base.specs.Words.{texts};
 
 use crate::commands::Command;
-use crate::commands::assembly::image_of_source;
 use crate::grammar::plain_settings;
 use crate::limits::MOST_FRAMES;
 use crate::numbers::decimal_number;
 use crate::settings::Settings;
+use m88_asm::image_of_source;
 use m88_base::{NoMemory, Reply, accept, first_word, refuse};
 use m88_pager::{MemStore, Paged, page_run};
 use m88_report::{push_count, report};

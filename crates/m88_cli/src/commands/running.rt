@@ -10,9 +10,9 @@ ghost use Rattle.m88_cli.specs.Limits.{most_input};
 ghost use Rattle.m88_base.specs.Words.{texts};
 
 use crate::commands::Command;
-use crate::commands::assembly::image_of_source;
 use crate::grammar::settings;
 use crate::settings::Settings;
+use m88_asm::image_of_source;
 use m88_base::{Image, NoMemory, Refusal, Reply, accept, refuse};
 use m88_board::{Board, Watch};
 use m88_event::Outcome;

@@ -7,7 +7,6 @@ ghost use Rattle.m88_cli.specs.Inside.Reply.{AnswersShown};
 ghost use Rattle.m88_base.specs.Words.{texts};
 
 use crate::commands::Command;
-use crate::commands::assembly::image_of_source;
 use crate::commands::running::outcome_of;
 use crate::commands::summary::summary;
 use crate::commands::workload::Draws;
@@ -15,6 +14,7 @@ use crate::grammar::no_more;
 use crate::limits::MOST_STATEMENTS;
 use crate::numbers::decimal_number;
 use crate::settings::Settings;
+use m88_asm::image_of_source;
 use m88_base::{Absent, NoMemory, Reply, accept, first_word};
 use m88_board::Watch;
 use m88_event::Schedule;

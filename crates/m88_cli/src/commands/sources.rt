@@ -6,8 +6,8 @@ ghost use Rattle.m88_cli.specs.Inside.Placing.{HoldSources, IsShort, all_placed}
 ghost use Rattle.m88_asm.specs.Several.{AreSources, HasTooMany, sources_refusal};
 ghost use Rattle.m88_cli.specs.Sources.{IsRefusedSources, most_sources};
 
-use crate::commands::assembly::image_of_source;
 use arrayvec::ArrayVec;
+use m88_asm::image_of_source;
 use m88_base::{Image, NoMemory, Refusal, parted_at};
 use std::alloc::Global;
 

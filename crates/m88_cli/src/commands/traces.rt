@@ -8,9 +8,9 @@ ghost use Rattle.m88_cli.specs.TracedSources.{differs_refusal, no_trace_refusal}
 ghost use Rattle.m88_base.specs.Words.{texts};
 
 use crate::commands::Command;
-use crate::commands::assembly::image_of_source;
 use crate::grammar::plain_settings;
 use crate::settings::Settings;
+use m88_asm::image_of_source;
 use m88_base::{NoMemory, Refusal, Reply, accept, parted_at, refuse};
 use m88_report::push_count;
 use m88_trace::{TraceFault, check_trace, trace_run};

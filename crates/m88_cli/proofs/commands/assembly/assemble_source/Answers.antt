@@ -1,8 +1,8 @@
 -- The text of the objects answers the source, and so does the line that refuses it.
 use Rattle.std.proofs.Common.{ap, ◌∙◌}
 use Rattle.m88_link.specs.ObjectText.{objects_text}
+use Rattle.m88_asm.specs.Sources.{AreSourceObjects}
 use Rattle.m88_cli.specs.Command.{asm}
-use Rattle.m88_cli.specs.Inside.Linking.{IsObjectsOf}
 use Rattle.m88_cli.proofs.Refusing.{refused_reply}
 use Rattle.m88_cli.proofs.commands.assembly.assemble_source.Goals as goal
 
@@ -14,7 +14,7 @@ returns-in-Err c =
 
 pub returns : goal.returns
 returns c =
-    let own : IsObjectsOf c.args.source.now c.in-Ok.objects.items = rw c.in-Ok.is at c.in_ok-objects.ensures.objects in
+    let own : AreSourceObjects c.args.source.now c.in-Ok.objects.items = rw c.in-Ok.is at c.in_ok-objects.ensures.objects in
     rw c.accept.ensures (record {
       accepted = record { unit = own.unit; is_unit = own.is_unit; is_assembled = own.is_assembled };
       output = record {

@@ -8,7 +8,7 @@ ghost use Rattle.m88_link.specs.Reasons.{duplicate_reason, link_reason};
 ghost use Rattle.m88_parse.specs.Fault.{out_of_memory};
 ghost use Rattle.m88_asm.specs.Sources.{asm_kind_behind, asm_refusal, link_kind_behind, link_refusal, parse_refusal};
 
-use m88_asm::{AsmFault, AsmKind};
+use crate::fault::{AsmFault, AsmKind};
 use m88_base::{Name, NoMemory, Refusal};
 use m88_link::{LinkFault, LinkKind};
 use m88_parse::{ParseFault, ParseKind};
@@ -60,7 +60,7 @@ fn line_in_input(lines: u32, line: u32) -> u64
 }
 
 /// Why a statement can't be laid out, where a first definition stands behind so many lines.
-#[tactic(auto, unfolding(m88_asm::specs::Reasons::asm_reason))]
+#[tactic(auto, unfolding(crate::specs::Reasons::asm_reason))]
 fn reason_of_asm(alloc: Global, lines: u32, kind: AsmKind) -> Result<String, NoMemory>
     ensures { IfOk result
         (λ reason. string_bytes reason ≡ asm_reason (asm_kind_behind lines kind)) }
