@@ -8,7 +8,7 @@ mod tests;
 
 use crate::finding::Finding;
 use m88_base::{Status, StdSink, StdSource};
-use m88_edge::{Filter, Keeping, Refused, Wanted, run, tell_seen};
+use m88_filter::{Filter, Keeping, Refused, Wanted, run, tell_seen};
 use m88_listing::m88list;
 use std::process::ExitCode;
 

@@ -2,7 +2,7 @@
 //! `m88_cli::command` to say.
 
 use m88_cli::{FORMS, Form, MOST_FRAMES, MOST_LIMIT, MOST_STATEMENTS, Reads};
-use m88_edge::Wanted;
+use m88_filter::Wanted;
 use std::fmt;
 
 /// A word after the name of a command.

@@ -12,7 +12,7 @@ use crate::usage::{NoFile, Usage};
 use m88_base::{StdSink, StdSource};
 use m88_board::Unwatched;
 use m88_cli::{Status, m88};
-use m88_edge::{Filter, Keeping, Showing, Wanted, run, tell_refusal, tell_seen};
+use m88_filter::{Filter, Keeping, Showing, Wanted, run, tell_refusal, tell_seen};
 use std::path::Path;
 use std::process::ExitCode;
 

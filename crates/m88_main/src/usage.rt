@@ -4,7 +4,7 @@ use crate::forms::{
     Call, Meaning, Place, fewest, form_of, most, place_at, place_name, reads_input, sample_of,
 };
 use m88_cli::{FORMS, Form, command};
-use m88_edge::put_shown;
+use m88_filter::put_shown;
 use std::alloc::{AllocError, Global};
 use std::fmt;
 

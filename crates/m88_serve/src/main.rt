@@ -6,7 +6,7 @@ mod unnamed;
 
 use crate::unnamed::Unnamed;
 use m88_base::{Hex8, Status, StdSink, StdSource};
-use m88_edge::{Filter, Keeping, Showing, Wanted, run, tell_refusal, tell_seen};
+use m88_filter::{Filter, Keeping, Showing, Wanted, run, tell_refusal, tell_seen};
 use m88_serving::m88serve;
 use std::process::ExitCode;
 

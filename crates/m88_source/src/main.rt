@@ -3,7 +3,7 @@
 #![tactic(auto)]
 
 use m88_base::{Status, StdSink, StdSource};
-use m88_edge::{Filter, Keeping, Showing, Wanted, run, tell_refusal, tell_seen};
+use m88_filter::{Filter, Keeping, Showing, Wanted, run, tell_refusal, tell_seen};
 use m88_sourcing::m88source;
 use std::process::ExitCode;
 

@@ -4,7 +4,7 @@ use Rattle.m88_event.specs.Timeline.{Moment}
 use Rattle.m88_isa.specs.Machine.{Program}
 use Rattle.m88_board.specs.Contexts.{StandsFor, StandsForSome}
 use Rattle.m88_board.specs.declared.context.Context.{Context}
-use Rattle.m88_parts.proofs.tests.sharing.hand_over.Goals as goal
+use Rattle.m88_board_tests.proofs.tests.sharing.hand_over.Goals as goal
 
 stands_by : (p : Program) (named : ℕ → Bool) (m : Moment) (context : Context) → StandsFor p named m context → StandsForSome context
 stands_by p named m context it = (p, named, m, it)
