@@ -1,8 +1,8 @@
 //! A program between standard input and standard output.
 
-use crate::refusal::Refused;
+use crate::refusal::Marked;
 use crate::seen::{Seen, Wanted};
-use m88_base::{MOST_INPUT, Status};
+use m88_base::{MOST_INPUT, Refused, Status};
 use std::env;
 use std::process::ExitCode;
 
@@ -45,20 +45,18 @@ fn tell(rt: &HostRuntime, name: &str, status: Status) {
     };
 }
 
-/// Tells a person where and why an input is refused, by what was written and with the line of the input, where these
-/// were remembered. The command is the word behind the program's name; empty where there is none.
-pub fn tell_refusal<'a>(
+/// Tells a person where and why an input is refused; with `shows_line` the line there, where the refusal has one. The
+/// command is the word behind the program's name; empty where there is none.
+pub fn tell_refusal(
     rt: &HostRuntime,
-    program: &'a str,
-    command: &'a str,
-    written: Option<&'a [u8]>,
-    input: Option<&'a [u8]>,
+    program: &str,
+    command: &str,
+    refused: &Option<Refused>,
+    shows_line: bool,
 ) {
-    let Some(written) = written else {
-        return;
-    };
-    if let Some(refused) = Refused::of(program, command, written, input) {
-        let _ = eprintln!(rt; "{refused}");
+    if let Some(refused) = refused {
+        let marked = Marked::of(program, command, refused, shows_line);
+        let _ = eprintln!(rt; "{marked}");
     }
 }
 

@@ -1,10 +1,10 @@
-//! A source and a sink that remember what went through them, for what a person is told of a refusal.
+//! A source and a sink that remember what went through them, for what a person is told of it.
 
 use m88_base::{Failed, Sink, Source};
 use std::alloc::Global;
 
-/// How many bytes of what is written are remembered, more than a line that refuses has; and of what is read where the
-/// whole isn't wanted.
+/// How many bytes are remembered of what is written, more than three transactions' lines have; and of what is read where
+/// the whole isn't wanted.
 const FRONT: usize = 512;
 
 /// A source that remembers the bytes that it gave, or the front of them, as long as there is memory for them.
@@ -22,14 +22,6 @@ impl<S: Source> Keeping<S> {
             inner,
             is_whole,
             kept: Some(Vec::new(alloc)),
-        }
-    }
-
-    /// The bytes that were given, in order; None where not all of them were remembered.
-    pub fn kept(&self) -> Option<&[u8]> {
-        match &self.kept {
-            Some(bytes) if self.is_whole => Some(bytes.as_slice()),
-            _ => None,
         }
     }
 

@@ -1,6 +1,6 @@
 //! What a person is told of a refusal: where it is, why, and the line with a mark below its column.
 
-use m88_base::{first_line, number_in, split_at_byte};
+use m88_base::Refused;
 use std::fmt;
 
 /// How many bytes of a line are shown, and how many of them before the column at most.
@@ -8,84 +8,49 @@ const WIDTH: usize = 100;
 
 const BEFORE: usize = 60;
 
-/// A refusal of the input of a program's command, or of a program without commands, whose name is then empty.
+/// What a person is told of a refusal of the input of a program's command, or of a program without commands, whose name
+/// is then empty.
 #[derive(Clone, Copy)]
-pub struct Refused<'a> {
+pub struct Marked<'a> {
     program: &'a str,
     command: &'a str,
-    line: u32,
-    column: u32,
-    reason: &'a [u8],
-    text: Option<&'a [u8]>,
+    refused: &'a Refused,
+    shows_line: bool,
 }
 
-impl<'a> Refused<'a> {
-    /// The refusal that a command wrote as `refused LINE:COL REASON`, with the line of its input, where that was
-    /// remembered; None where it wrote something else.
+impl<'a> Marked<'a> {
+    /// What is told of a refusal; with `shows_line` the line of the input with it, where the refusal has one.
     pub fn of(
         program: &'a str,
         command: &'a str,
-        written: &'a [u8],
-        input: Option<&'a [u8]>,
-    ) -> Option<Refused<'a>> {
-        let (word, rest) = split_at_byte(b' ', written)?;
-        let (line, rest) = split_at_byte(b':', rest)?;
-        let (column, rest) = split_at_byte(b' ', rest)?;
-        let (reason, _) = split_at_byte(b'\n', rest)?;
-        if word != b"refused".as_slice() {
-            return None;
-        }
-        let line = number_in(10, line, u32::MAX)?;
-        let column = number_in(10, column, u32::MAX)?;
-        let text = match input {
-            Some(input) => line_of(input, line),
-            None => None,
-        };
-        Some(Refused {
+        refused: &'a Refused,
+        shows_line: bool,
+    ) -> Marked<'a> {
+        Marked {
             program,
             command,
-            line,
-            column,
-            reason,
-            text,
-        })
-    }
-
-    /// The same refusal with the line of its input, where that was remembered alone.
-    pub fn showing(self, text: Option<&'a [u8]>) -> Refused<'a> {
-        Refused { text, ..self }
+            refused,
+            shows_line,
+        }
     }
 }
 
-impl<'a> fmt::Display for Refused<'a> {
+impl<'a> fmt::Display for Marked<'a> {
     fn fmt<W: fmt::Write>(&self, f: &mut fmt::Formatter<W>) -> fmt::Result {
         f.write_str(self.program)?;
         if !self.command.is_empty() {
             write!(f, " {}", self.command)?;
         }
-        write!(f, ": refused at {}:{}: ", self.line, self.column)?;
-        put_shown(f, self.reason)?;
-        match self.text {
-            Some(text) => put_marked(f, text, self.column as usize),
-            None => Ok(()),
+        let refusal = &self.refused.refusal;
+        write!(f, ": refused at {}:{}: ", refusal.line(), refusal.column())?;
+        put_shown(f, refusal.reason())?;
+        match &self.refused.line {
+            Some(line) if self.shows_line => {
+                put_marked(f, line.as_slice(), refusal.column() as usize)
+            }
+            _ => Ok(()),
         }
     }
-}
-
-/// A line of an input without its line end, counted from 1; None where there is no such line.
-fn line_of(input: &[u8], number: u32) -> Option<&[u8]> {
-    let mut rest = input;
-    for n in 1..=number {
-        if rest.is_empty() {
-            return None;
-        }
-        let (line, others) = first_line(rest);
-        if n == number {
-            return Some(line);
-        }
-        rest = others;
-    }
-    None
 }
 
 /// The line below, and a mark below the byte of a column, which is counted from 1. Of a long line the part around the

@@ -18,4 +18,5 @@ pub mod Whole
 pub mod Numbering
 pub mod Settling
 pub mod Reached
+pub mod Promises
 pub mod Refitting

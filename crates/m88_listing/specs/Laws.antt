@@ -1,14 +1,18 @@
--- What holds of every listing: its lines show the image that `build` makes, and each line of the source once.
+-- What holds of every source and of its listing: it is accepted or refused, and it has one text, whose lines show the
+-- image that `build` makes, and each line of the source once.
 use Rattle.std.specs.Prelude.{◌==◌, ◌≤◌, Bool, not, drop, filter, length, slice_index_or, map, ◌≡◌, ◌↔◌, ◌⊎◌, ℕ, Some, List, [], ◌∷◌, flat_map}
 use Rattle.std.specs.Option.{option_map_or}
 use Rattle.m88_base.specs.Image.{ProgramImage, byte_at}
 use Rattle.m88_base.specs.Lines.{lines_of}
+use Rattle.m88_base.specs.OneVerdict.{HasOneFaultUnless}
 use Rattle.m88_base.specs.Placed.{Placed, byte_in}
 use Rattle.m88_base.specs.Reading.{most_input}
 use Rattle.m88_parse.specs.Language.Units.{IsUnit}
 use Rattle.m88_parse.specs.declared.unit.Unit.{Unit as Source}
 use Rattle.m88_asm.specs.Accepted.{IsAcceptedUnit}
 use Rattle.m88_asm.specs.Images.{IsUnitImage}
+use Rattle.m88_asm.specs.Sources.{IsProgramSource, IsRefusedProgram}
+use Rattle.m88_listing.specs.Answer.{Lists}
 use Rattle.m88_listing.specs.Columns.{before_source, space_byte}
 use Rattle.m88_listing.specs.Rows.{Row, numbered_lines, row_on, rows_of_unit, source_lines}
 
@@ -37,3 +41,13 @@ abbrev pub EachLineStandsOnce : Type 0
 EachLineStandsOnce =
     (source : List ℕ) (u : Source) → length source ≤ most_input → IsAcceptedUnit u
     → map (drop before_source) (filter has_number (source_lines (rows_of_unit u) source)) ≡ lines_of source
+
+-- what holds of all of them
+pub record ListingLaws : Type 0 where
+  -- a source is accepted, or refused for one reason, never both; and no two texts list it
+  pub one_verdict : (source : List ℕ) → HasOneFaultUnless (IsProgramSource source) (IsRefusedProgram 0 source)
+  pub one_text : (source a b : List ℕ) → Lists source a → Lists source b → a ≡ b
+  -- the lines of every listing show a byte at an address exactly where the image of the source has it, and each line of
+  -- the source stands there once, in order
+  pub image : EachShowsItsImage
+  pub lines : EachLineStandsOnce

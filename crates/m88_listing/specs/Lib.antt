@@ -7,5 +7,6 @@ pub mod Listing
 pub mod Settled
 pub mod Refused
 pub mod Answer
+pub mod Told
 pub mod Laws
 pub mod Inside

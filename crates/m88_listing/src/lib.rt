@@ -22,4 +22,4 @@ mod rows;
 // The top call.
 mod program;
 
-pub use program::m88list;
+pub use program::{list_source, m88list};

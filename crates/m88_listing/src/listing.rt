@@ -1,5 +1,5 @@
 //! The text for a source: its listing, or the text that refuses it.
-ghost use Rattle.std.specs.Prelude.{◌≢◌, ◌≤◌, [], IfOk, length, map};
+ghost use Rattle.std.specs.Prelude.{◌≢◌, ◌≤◌, [], IfOk, length, map, string_bytes};
 ghost use Rattle.std.specs.List.{All};
 ghost use Rattle.m88_base.specs.Image.{IsImage, byte_at};
 ghost use Rattle.m88_parse.specs.Fault.{out_of_memory, reason};
@@ -24,7 +24,7 @@ use crate::slots::Slot;
 use crate::standing::standings;
 use crate::sums::push_sums;
 use m88_asm::{AsmFault, AsmKind, assemble};
-use m88_base::{Image, NoMemory, Reply};
+use m88_base::{Image, NoMemory, Refusal, Refused, Reply, accept};
 use m88_link::{LinkFault, LinkKind, Object, link_forced, stand};
 use m88_parse::{ParseFault, ParseKind, Unit, parse};
 use std::alloc::Global;
@@ -41,34 +41,35 @@ fn refuse(
     image: &Image,
     line: u32,
     column: u32,
-    reason: &[u8],
+    reason: String,
 ) -> Result<Reply, NoMemory>
     requires short { length source.now ≤ most_input }
     requires each { All (IsSlot (byte_at image.now)) slots.now }
     requires climb { Climb 1 slots.now }
     ensures { IsRefusedWith source.now
-        (record { line = line; column = column; reason = reason.now })
+        (record { line = line; column = column; reason = string_bytes reason })
         (map (kept_row (byte_at image.now)) slots.now) → IfOk result (ListsAs source.now) }
 {
     let mut text = Vec::with_capacity(alloc, ROOM * source.len())?;
-    push_refusal(&mut text, source, slots, image, line, column, reason)?;
+    push_refusal(&mut text, source, slots, image, line, column, reason.as_bytes())?;
+    let refusal = Refusal::new(u64::from(line), column, reason);
     Ok(Reply {
-        accepted: false,
         text,
+        refused: Some(Refused::unshown(refusal)),
     })
 }
 
-/// The same without rows.
+/// The reply that refuses a source at a line and a column, both from 1, for a reason, and shows no row.
 fn refuse_bare(
     alloc: Global,
     source: &[u8],
     line: u32,
     column: u32,
-    reason: &[u8],
+    reason: String,
 ) -> Result<Reply, NoMemory>
     requires { length source.now ≤ most_input }
     ensures { IsRefusedWith source.now
-        (record { line = line; column = column; reason = reason.now }) []
+        (record { line = line; column = column; reason = string_bytes reason }) []
         → IfOk result (ListsAs source.now) }
 {
     refuse(alloc, source, &[], &Image::new(alloc), line, column, reason)
@@ -85,13 +86,8 @@ fn unread(alloc: Global, source: &[u8], fault: ParseFault) -> Result<Reply, NoMe
     if fault.kind == ParseKind::Memory {
         return Err(NoMemory);
     }
-    refuse_bare(
-        alloc,
-        source,
-        fault.line,
-        fault.col,
-        fault.kind.reason().as_bytes(),
-    )
+    let reason = String::from_str(alloc, fault.kind.reason())?;
+    refuse_bare(alloc, source, fault.line, fault.col, reason)
 }
 
 /// The reply for a fault of the unit's statements, unless the fault is that memory ran out.
@@ -106,7 +102,7 @@ fn unassembled(alloc: Global, source: &[u8], fault: AsmFault) -> Result<Reply, N
         return Err(NoMemory);
     }
     let reason = fault.kind.to_string(alloc)?;
-    refuse_bare(alloc, source, fault.line, fault.col, reason.as_bytes())
+    refuse_bare(alloc, source, fault.line, fault.col, reason)
 }
 
 /// The reply for a fault of the unit's layout by which its sections don't have their room, unless the fault is that
@@ -122,7 +118,7 @@ fn unplaced(alloc: Global, source: &[u8], fault: LinkFault) -> Result<Reply, NoM
         return Err(NoMemory);
     }
     let reason = fault.kind.to_string(alloc)?;
-    refuse_bare(alloc, source, fault.line, fault.col, reason.as_bytes())
+    refuse_bare(alloc, source, fault.line, fault.col, reason)
 }
 
 /// The reply for a fault by which a name or a distance is refused. It has the rows of what can be carried out, whose
@@ -153,7 +149,7 @@ fn unnamed(
         image,
         fault.line,
         fault.col,
-        reason.as_bytes(),
+        reason,
     )
 }
 
@@ -203,8 +199,5 @@ pub(crate) fn reply_to(alloc: Global, source: &[u8]) -> Result<Reply, NoMemory>
         return unnamed(alloc, source, &unit, &objects, &image, fault);
     }
     let text = listing(alloc, source, &unit, &objects, &image)?;
-    Ok(Reply {
-        accepted: true,
-        text,
-    })
+    Ok(accept(text))
 }

@@ -7,7 +7,7 @@ mod unnamed;
 use crate::unnamed::Unnamed;
 use m88_base::{Hex8, Status, StdSink, StdSource};
 use m88_filter::{Filter, Keeping, Showing, Wanted, run, tell_refusal, tell_seen};
-use m88_serving::m88serve;
+use m88_serving::serve_case;
 use std::process::ExitCode;
 
 /// The version of this program, which manual page and changelog tell too.
@@ -27,18 +27,18 @@ impl Filter for M88Serve {
     fn answer(&self, rt: &HostRuntime, words: &[String]) -> Status {
         let mut source = Keeping::new(rt.alloc(), StdSource::new(rt.reader()), true);
         let mut sink = Showing::new(rt.alloc(), StdSink::new(rt.stdout()));
-        let status = m88serve(rt.alloc(), words, &mut source, &mut sink);
-        match status {
+        let answer = serve_case(rt.alloc(), words, &mut source, &mut sink);
+        match answer.status {
             Status::Usage => tell_usage(rt),
             Status::Done => tell_unnamed(rt, source.front(), sink.front().unwrap_or(&[])),
             Status::Refused => {
-                tell_refusal(rt, self.name(), "", sink.front(), source.kept());
+                tell_refusal(rt, self.name(), "", &answer.refused, true);
                 tell_seen(rt, self.name(), source.front(), Wanted::Fault);
                 tell_record(rt, source.front());
             }
             _ => {}
         }
-        status
+        answer.status
     }
 }
 

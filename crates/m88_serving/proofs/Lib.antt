@@ -14,4 +14,5 @@ pub mod Touched
 pub mod Alike
 pub mod Faulted
 pub mod CaughtUp
+pub mod Promises
 pub mod Laws

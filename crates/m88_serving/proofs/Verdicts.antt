@@ -2,15 +2,16 @@
 use Rattle.std.specs.Prelude.{ℕ, List, [], ◌++◌, ◌≡◌, ◌<◌, true, Option, Some, None, IfOk, Result, Ok, Err, codes, length}
 use Rattle.std.specs.Option.{option_or}
 use Rattle.std.proofs.Common.{refl, sym, ap, ◌∙◌, arith, subst, length-append}
-use Rattle.m88_base.proofs.Laws.{AreVerdicts}
+use Rattle.m88_base.proofs.Laws.{AreVerdicts, denies, refuses_so, unrefused}
 use Rattle.m88_base.specs.Lines.{line_end, lines_of}
 use Rattle.m88_base.specs.Refused.{placed_reason}
-use Rattle.m88_base.specs.Reply.{IsRefusalOf}
+use Rattle.m88_base.specs.Refusal.{refusal_line}
+use Rattle.m88_base.specs.Reply.{IsRefusalOf, accepts}
 use Rattle.m88_base.specs.declared.failing.NoMemory.{NoMemory}
 use Rattle.m88_base.specs.declared.reply.Reply.{Reply}
 use Rattle.m88_serving.specs.Cases.{Case, case_in}
 use Rattle.m88_serving.specs.Faults.{case_fault, fault_of_kind, record_fault, repeated_from, serve_reason}
-use Rattle.m88_serving.specs.Served.{IsServed, IsTurnedDown, turned_down_line, served_text}
+use Rattle.m88_serving.specs.Served.{IsCaseRefusal, IsServed, IsTurnedDown, served_text, turned_down}
 use Rattle.m88_serving.specs.Serving.{named_bus, serving_with}
 use Rattle.m88_serving.specs.Verdict.{faultless, case_verdict, serve_verdict}
 use Rattle.m88_serving.specs.Inside.Replies.{RepliesServed}
@@ -60,18 +61,20 @@ accepted_record input told e = told_of_case (case_in (lines_of input)) told e
 
 -- the replies, where there was memory for one
 pub refused_reply : (input : List ℕ) (fault : ServeFault) (result : Result Reply NoMemory) → serve_verdict input ≡ Err fault
-    → IfOk result (IsRefusalOf (record { line = fault.line; column = 1; reason = serve_reason fault.kind })) → IfOk result (RepliesServed input)
-refused_reply input fault (Ok reply) refused is = rw is.refused (record { fault = fault; refused = refused; is_text = is.line })
+    → IfOk result (IsRefusalOf (turned_down fault)) → IfOk result (RepliesServed input)
+refused_reply input fault (Ok reply) refused is =
+    (rw (denies (turned_down fault) reply is) (record { fault = fault; refused = refused; is_text = is.line }),
+    refuses_so (turned_down fault) reply is (IsCaseRefusal input) (record { fault = fault; refused = refused; is = refl }))
 refused_reply input fault (Err e) refused is = tt
 
 pub accepted_reply : (input : List ℕ) (c : Case) (bus : ℕ → ℕ) (result : Result Reply NoMemory) → serve_verdict input ≡ Ok c → bus ≡ named_bus c.words
-    → IfOk result (λ reply. reply.accepted ≡ true)
+    → IfOk result (λ reply. accepts reply ≡ true)
     → IfOk result (λ reply. reply.text.items ≡ served_text (serving_with c.fault bus)) → IfOk result (RepliesServed input)
-accepted_reply input c bus (Ok reply) accepted named granted is = rw granted (record {
+accepted_reply input c bus (Ok reply) accepted named granted is = (rw granted (record {
   told = c;
   accepted = accepted;
   is_text = is ∙ ap (λ b. served_text (serving_with c.fault b)) named;
-})
+}), unrefused reply (IsCaseRefusal input) granted)
 accepted_reply input c bus (Err e) accepted named granted is = tt
 
 -- an input isn't accepted and refused
@@ -79,7 +82,7 @@ pub not_both : (input : List ℕ) (told : Case) (fault : ServeFault) → serve_v
 not_both input told fault granted denied = let e : Ok told ≡ Err fault = sym granted ∙ denied in absurd cc
 
 -- the line of a refusal has a byte
-fault_line_some : (fault : ServeFault) → 0 < length (turned_down_line fault)
+fault_line_some : (fault : ServeFault) → 0 < length (refusal_line (turned_down fault))
 fault_line_some fault =
     omega (arith, length-append (codes "refused ") (placed_reason fault.line 1 (serve_reason fault.kind) ++ line_end))
 
@@ -93,5 +96,5 @@ serve_verdicts = record {
   one_refusal = λ input a b x y.
       let e : Err x.fault ≡ Err y.fault = sym x.refused ∙ y.refused in
       let same : x.fault ≡ y.fault = cc in
-      x.is_text ∙ ap turned_down_line same ∙ sym y.is_text;
+      x.is_text ∙ ap (λ (f : ServeFault). refusal_line (turned_down f)) same ∙ sym y.is_text;
 }

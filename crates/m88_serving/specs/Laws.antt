@@ -108,3 +108,14 @@ abbrev pub EachServiceCatchesUp : Type 0
 EachServiceCatchesUp =
     (p : Program) → IsProgram p → (named : ℕ → Bool) (limit : ℕ) (schedule : List Letter) (k : ℕ)
     → CatchesUpAt p named limit (moment_after p named limit schedule k)
+
+-- what holds of all of them
+pub record ServingLaws : Type 0 where
+  -- a word is taken as a DMT exactly where an access of some instruction has it, and behind the service of what is
+  -- accepted no register waits
+  pub accesses : EachDmtIsOfAnAccess
+  pub waits : EachLeavesNoneWaiting
+  -- what a data fault leaves at any moment of a run, with the words of that moment where transactions are pending, is
+  -- accepted, and served so; behind that service memory and the registers that were waited for are those of the history
+  pub faults : EachFaultIsServed
+  pub caught_up : EachServiceCatchesUp

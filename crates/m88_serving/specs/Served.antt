@@ -5,7 +5,9 @@ use Rattle.m88_base.specs.Hex.{hex8}
 use Rattle.m88_base.specs.Lines.{line_end}
 use Rattle.m88_base.specs.Reg.{number_of}
 use Rattle.m88_base.specs.RegisterSet.{registers_in}
-use Rattle.m88_base.specs.Refused.{refused_line}
+use Rattle.m88_base.specs.Refusal.{Refusal, refusal_line}
+use Rattle.m88_base.specs.Shown.{IsShownOf}
+use Rattle.m88_base.specs.declared.refused.Refused.{Refused}
 use Rattle.m88_base.specs.declared.triple.Triple.{Triple}
 use Rattle.m88_isa.specs.Bus.{changed_words, loaded}
 use Rattle.m88_isa.specs.Lanes.{touched_below}
@@ -98,9 +100,9 @@ left_text before after =
 unfoldable pub served_text : Serving → List ℕ
 served_text s = transactions_text s ++ left_text s (after_service s)
 
--- the line that refuses an input, at column 1
-abbrev pub turned_down_line : ServeFault → List ℕ
-turned_down_line fault = refused_line fault.line 1 (serve_reason fault.kind)
+-- where and why an input is refused, at column 1
+abbrev pub turned_down : ServeFault → Refusal
+turned_down fault = record { line = fault.line; column = 1; reason = serve_reason fault.kind }
 
 -- the text is that of an input that is accepted
 pub record IsServed (input text : List ℕ) : Type 0 where
@@ -112,4 +114,14 @@ pub record IsServed (input text : List ℕ) : Type 0 where
 pub record IsTurnedDown (input text : List ℕ) : Type 0 where
   pub fault : ServeFault
   pub refused : serve_verdict input ≡ Err fault
-  pub is_text : text ≡ turned_down_line fault
+  pub is_text : text ≡ refusal_line (turned_down fault)
+
+-- where and why an input is refused
+pub record IsCaseRefusal (input : List ℕ) (refusal : Refusal) : Type 0 where
+  pub fault : ServeFault
+  pub refused : serve_verdict input ≡ Err fault
+  pub is : refusal ≡ turned_down fault
+
+-- what is told of an input that is refused: where and why, and the line there
+abbrev pub IsToldOf : List ℕ → Refused → Type 0
+IsToldOf input told = IsCaseRefusal input told.refusal × IsShownOf input told

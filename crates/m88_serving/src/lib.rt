@@ -25,6 +25,6 @@ pub use entering::control_left;
 pub use fault::{ServeFault, ServeKind};
 pub use judging::is_status;
 pub use lines::last_word;
-pub use program::m88serve;
+pub use program::{m88serve, serve_case};
 pub use telling::{ToldCase, Untold, told_case};
 pub use text::push_slots;

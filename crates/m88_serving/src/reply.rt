@@ -1,9 +1,9 @@
 //! The text for an input: what the handler must come to, or the line that refuses the input.
 ghost use Rattle.std.specs.Prelude.{◌≡◌, IfOk, None, true};
-ghost use Rattle.m88_base.specs.Reply.{IsRefusalOf};
+ghost use Rattle.m88_base.specs.Reply.{IsRefusalOf, accepts};
 ghost use Rattle.m88_mem.specs.DataBus.{image_bus};
-ghost use Rattle.m88_serving.specs.Faults.{record_fault, serve_reason};
-ghost use Rattle.m88_serving.specs.Served.{served_text};
+ghost use Rattle.m88_serving.specs.Faults.{record_fault};
+ghost use Rattle.m88_serving.specs.Served.{served_text, turned_down};
 ghost use Rattle.m88_serving.specs.Serving.{serving_with};
 ghost use Rattle.m88_serving.specs.Inside.Replies.{RepliesServed};
 
@@ -32,11 +32,7 @@ pub(crate) fn reply_to(alloc: Global, input: &[u8]) -> Result<Reply, NoMemory>
 
 /// The reply that refuses an input.
 fn turned_down(alloc: Global, fault: &ServeFault) -> Result<Reply, NoMemory>
-    ensures { IfOk result (IsRefusalOf (record {
-      line = fault.now.line;
-      column = 1;
-      reason = serve_reason fault.now.kind;
-    })) }
+    ensures { IfOk result (IsRefusalOf (turned_down fault.now)) }
 {
     let reason = String::from_str(alloc, fault.kind.reason())?;
     refuse(alloc, &Refusal::new(fault.line, 1, reason))
@@ -46,7 +42,7 @@ fn turned_down(alloc: Global, fault: &ServeFault) -> Result<Reply, NoMemory>
 /// and what is left behind it.
 fn served(alloc: Global, fault: &Record, image: &Image) -> Result<Reply, NoMemory>
     requires { record_fault fault.now ≡ None }
-    ensures accepted { IfOk result (λ reply. reply.accepted ≡ true) }
+    ensures accepted { IfOk result (λ reply. accepts reply ≡ true) }
     ensures text { IfOk result (λ reply.
         reply.text.items ≡ served_text (serving_with fault.now (image_bus image.now))) }
 {

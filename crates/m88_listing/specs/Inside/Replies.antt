@@ -1,7 +1,7 @@
 -- What the reply to a source says.
 use Rattle.std.specs.Prelude.{ℕ, List, ◌≡◌}
 use Rattle.m88_base.specs.Image.{ProgramImage}
-use Rattle.m88_base.specs.Reply.{AnswersAs}
+use Rattle.m88_base.specs.Reply.{AnswersAs, RefusesAs}
 use Rattle.m88_base.specs.declared.reply.Reply.{Reply}
 use Rattle.m88_parse.specs.Language.Units.{IsUnit}
 use Rattle.m88_parse.specs.WellFormed.{IsWellFormed}
@@ -16,12 +16,14 @@ use Rattle.m88_asm.specs.Faults.{IsAssembled}
 use Rattle.m88_asm.specs.Units.{unit_layout}
 use Rattle.m88_asm.specs.Images.{IsUnitImage}
 use Rattle.m88_asm.specs.Objects.{objects_of}
+use Rattle.m88_asm.specs.Sources.{IsRefusedProgram}
 use Rattle.m88_listing.specs.Answer.{ListsRefused}
 use Rattle.m88_listing.specs.Listing.{ListsAccepted}
 
--- the reply's text lists a source that is accepted or refused, as the reply says
+-- the reply's text lists a source that is accepted or refused, as the reply says, and its refusal is that of the source
 abbrev pub ListsAs : List ℕ → Reply → Type 0
-ListsAs source r = AnswersAs (ListsAccepted source) (ListsRefused source) r
+ListsAs source r =
+    AnswersAs (ListsAccepted source) (ListsRefused source) r × RefusesAs (IsRefusedProgram 0 source) r
 
 -- a source has a unit that is accepted, and these are its objects and its image
 pub record IsBuilt (source : List ℕ) (unit : Source) (objects : List Object) (image : ProgramImage) : Type 0 where

@@ -79,8 +79,8 @@ returns c =
     let h = c.requires.unlinked in
     let image = c.args.image.now in
     let rows = map (kept_row (byte_at image)) in
-    let said : c.as_bytes.result.now ≡ link_reason c.args.fault.kind = grind (arith, common_steps) in
+    let said : string_bytes c.in_ok-reason.reason ≡ link_reason c.args.fault.kind = grind (arith, common_steps) in
     let own : rows c.as_slice-3.result.now ≡ unlinked_rows u c.args.fault.kind =
     ap rows (kept (goal.at.returns c).After-as_slice-3) ∙ sym (settled_rows u image (laid (goal.at.returns c).After-stand))
     ∙ named_rows u c.args.fault.kind c.requires.kind in
-    c.refuse.ensures (unlinked_with c.args.source.now c.as_bytes.result.now u c.args.fault (rows c.as_slice-3.result.now) h.is_unit h.assembled h.is_refused said own)
+    c.refuse.ensures (unlinked_with c.args.source.now string_bytes c.in_ok-reason.reason u c.args.fault (rows c.as_slice-3.result.now) h.is_unit h.assembled h.is_refused said own)
