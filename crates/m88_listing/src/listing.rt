@@ -51,7 +51,15 @@ fn refuse(
         (map (kept_row (byte_at image.now)) slots.now) → IfOk result (ListsAs source.now) }
 {
     let mut text = Vec::with_capacity(alloc, ROOM * source.len())?;
-    push_refusal(&mut text, source, slots, image, line, column, reason.as_bytes())?;
+    push_refusal(
+        &mut text,
+        source,
+        slots,
+        image,
+        line,
+        column,
+        reason.as_bytes(),
+    )?;
     let refusal = Refusal::new(u64::from(line), column, reason);
     Ok(Reply {
         text,

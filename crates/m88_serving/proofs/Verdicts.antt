@@ -62,19 +62,23 @@ accepted_record input told e = told_of_case (case_in (lines_of input)) told e
 -- the replies, where there was memory for one
 pub refused_reply : (input : List ℕ) (fault : ServeFault) (result : Result Reply NoMemory) → serve_verdict input ≡ Err fault
     → IfOk result (IsRefusalOf (turned_down fault)) → IfOk result (RepliesServed input)
-refused_reply input fault (Ok reply) refused is =
-    (rw (denies (turned_down fault) reply is) (record { fault = fault; refused = refused; is_text = is.line }),
-    refuses_so (turned_down fault) reply is (IsCaseRefusal input) (record { fault = fault; refused = refused; is = refl }))
+refused_reply input fault (Ok reply) refused is = (
+  rw (denies (turned_down fault) reply is) (record { fault = fault; refused = refused; is_text = is.line }),
+  refuses_so (turned_down fault) reply is (IsCaseRefusal input) (record { fault = fault; refused = refused; is = refl }),
+)
 refused_reply input fault (Err e) refused is = tt
 
 pub accepted_reply : (input : List ℕ) (c : Case) (bus : ℕ → ℕ) (result : Result Reply NoMemory) → serve_verdict input ≡ Ok c → bus ≡ named_bus c.words
     → IfOk result (λ reply. accepts reply ≡ true)
     → IfOk result (λ reply. reply.text.items ≡ served_text (serving_with c.fault bus)) → IfOk result (RepliesServed input)
-accepted_reply input c bus (Ok reply) accepted named granted is = (rw granted (record {
-  told = c;
-  accepted = accepted;
-  is_text = is ∙ ap (λ b. served_text (serving_with c.fault b)) named;
-}), unrefused reply (IsCaseRefusal input) granted)
+accepted_reply input c bus (Ok reply) accepted named granted is = (
+  rw granted (record {
+    told = c;
+    accepted = accepted;
+    is_text = is ∙ ap (λ b. served_text (serving_with c.fault b)) named;
+  }),
+  unrefused reply (IsCaseRefusal input) granted,
+)
 accepted_reply input c bus (Err e) accepted named granted is = tt
 
 -- an input isn't accepted and refused
