@@ -1,5 +1,6 @@
 -- The rows are those of the unit without what can't be carried out.
 use Rattle.std.proofs.Common.{◌≡◌, ◌≤◌, ◌∙◌, List, ap, arith, sym, subst, map}
+use Rattle.std.specs.Prelude.{string_bytes}
 use Rattle.std.proofs.lemmas.Grind.{common_steps}
 use Rattle.m88_link.specs.Reasons.{link_reason}
 use Rattle.std.specs.List.{All}
@@ -83,4 +84,4 @@ returns c =
     let own : rows c.as_slice-3.result.now ≡ unlinked_rows u c.args.fault.kind =
     ap rows (kept (goal.at.returns c).After-as_slice-3) ∙ sym (settled_rows u image (laid (goal.at.returns c).After-stand))
     ∙ named_rows u c.args.fault.kind c.requires.kind in
-    c.refuse.ensures (unlinked_with c.args.source.now string_bytes c.in_ok-reason.reason u c.args.fault (rows c.as_slice-3.result.now) h.is_unit h.assembled h.is_refused said own)
+    c.refuse.ensures (unlinked_with c.args.source.now (string_bytes c.in_ok-reason.reason) u c.args.fault (rows c.as_slice-3.result.now) h.is_unit h.assembled h.is_refused said own)

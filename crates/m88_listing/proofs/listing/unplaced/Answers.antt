@@ -1,5 +1,6 @@
 -- No row is shown.
 use Rattle.std.proofs.Common.{◌≡◌, [], List, ℕ, arith, subst, sym}
+use Rattle.std.specs.Prelude.{string_bytes}
 use Rattle.std.proofs.lemmas.Grind.{common_steps}
 use Rattle.m88_link.specs.Reasons.{link_reason}
 use Rattle.m88_listing.specs.Answer.{IsRefusedWith}
