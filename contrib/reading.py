@@ -64,7 +64,7 @@ class Choice:
     """A command, the kind of its input, and all commands and kinds."""
 
     def __init__(self, name):
-        file = File.of("Rattle.m88_cli.specs.Command")
+        file = File.of("Rattle.m88_commands.specs.Command")
         commands, kinds = (re.findall(r"^  (\w+) :", "\n".join(file.definitions[data].text), re.M) for data in ("Command", "InputKind"))
         if name not in commands:
             raise KeyError(name)
@@ -118,7 +118,7 @@ class File:
 
     @classmethod
     def of(cls, module):
-        """The file of a module of specs, as Rattle.m88_cli.specs.Runs; None where the code declares it, or std has it."""
+        """The file of a module of specs, as Rattle.m88_base.specs.Image; None where the code declares it, or std has it."""
         parts = module.split(".")
         if len(parts) < 4 or parts[2] != "specs" or parts[3] == "declared":
             return None

@@ -1,4 +1,4 @@
-"""How each command of m88 is called, as the table of the program has it, in crates/m88_cli/src/commands.rt."""
+"""How each command of m88 is called, as the table of the program has it, in crates/m88_commands/src/commands.rt."""
 import os
 import re
 from typing import NamedTuple
@@ -15,7 +15,7 @@ class Form(NamedTuple):
 
 def forms():
     """The form of each command, in the order of the table."""
-    with open(os.path.join(TOP, "crates", "m88_cli", "src", "commands.rt"), encoding="utf-8") as file:
+    with open(os.path.join(TOP, "crates", "m88_commands", "src", "commands.rt"), encoding="utf-8") as file:
         text = file.read()
     rows = re.findall(r'^    Form\("(\w+)", "([^"]*)", Reads::(\w+)\),$', text, re.M)
     if not rows or len(rows) != int(re.search(r"const FORMS: \[Form; (\d+)\]", text).group(1)):

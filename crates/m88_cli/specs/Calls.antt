@@ -1,31 +1,49 @@
--- What a call of the program did between its words, its source and its sink. Of a source or sink that doesn't tell its
--- bytes nothing is said.
-use Rattle.std.specs.Prelude.{ℕ, ◌≡◌, List, [], Option, MatchBool}
-use Rattle.m88_base.specs.Filter.{IsInputLeft}
-use Rattle.m88_base.specs.Outside.{GivesAll}
-use Rattle.m88_cli.specs.Command.{Command, Spells, reads_input}
+-- What the program does with its words, its source, its sink and its watch. Of a source, a sink or a watch that doesn't
+-- tell what it gave, held or was shown, nothing is said of these.
+use Rattle.std.specs.Prelude.{ℕ, ◌≡◌, ◌≢◌, List, Option}
+use Rattle.m88_base.specs.Filter.{AnswersFor, ReadsFor, UsageFor, WritesFor}
+use Rattle.m88_base.specs.declared.refused.Refused.{Refused as Told}
+use Rattle.m88_base.specs.declared.status.Status.{Status}
+use Rattle.m88_base.specs.declared.status.Status.TheVariants.{SourceFault, TooLong, Usage}
+use Rattle.m88_board.specs.declared.glance.Glance.{Glance}
+use Rattle.m88_commands.specs.Answer.{IsAnswerToAccepted, IsAnswerToRefused}
+use Rattle.m88_commands.specs.Command.{Command, SpellNoReader, SpellNothing, Spells}
+use Rattle.m88_commands.specs.Inputs.{ShowsRefusal, left_for}
+use Rattle.m88_commands.specs.Watching.{Shown}
 
--- the source, with these bytes left before and those after, gave a command its input: all that it had, to its end; a
--- command that reads none has the empty input
-abbrev pub GivesInput : Command → Option (List ℕ) → Option (List ℕ) → List ℕ → Type 0
-GivesInput command before after input = MatchBool (reads_input command) (GivesAll before after input) (input ≡ [])
+-- an input is accepted with this text, and the watch was shown the boards of the command
+abbrev pub AcceptedWith : {W : Type 0} → (W → Option (List Glance)) → W → W → Command → List ℕ → List ℕ → Type 0
+AcceptedWith seen old new command input text =
+    IsAnswerToAccepted command input text × Shown command input (seen old) (seen new)
 
--- the words spell a command, the source gave it its input, and something holds of these two
-pub record Given (words : List (List ℕ)) (before after : Option (List ℕ))
-    (Holds : Command → List ℕ → Type 0) : Type 0 where
+-- it is refused with this text, and the watch was shown nothing
+abbrev pub RefusedWith : {W : Type 0} → W → W → Command → List ℕ → List ℕ → Type 0
+RefusedWith old new command input text = IsAnswerToRefused command input text × (new ≡ old)
+
+-- what the program does, where it ends with this status
+pub record CarriesOut {S K W : Type 0} (left : S → Option (List ℕ)) (source_calls : S → Option ℕ)
+    (source_faults : S → ℕ) (held : K → Option (List ℕ)) (sink_calls : K → Option ℕ) (sink_faults : K → ℕ)
+    (seen : W → Option (List Glance)) (source source_after : S) (sink sink_after : K) (watch watch_after : W)
+    (words : List (List ℕ)) (status : Status) : Type 0 where
+  -- words that spell no command are answered Usage, and no others; then nothing is read
+  pub usage : UsageFor (SpellNothing words) source source_after status
+  -- any other answer is that of a command
+  pub spelled : status ≢ Usage → (command : Command) × Spells words command
+  -- a command that has no input leaves the source alone, and isn't answered by what that does
+  pub unread : SpellNoReader words
+      → (source_after ≡ source) × (status ≢ SourceFault) × (status ≢ TooLong)
+  -- at most two calls more are made of the source than an input may have bytes; a source or a sink is blamed only for
+  -- what it did, and no failure is passed over; without a text nothing is written
+  pub reading : ReadsFor left source_calls source_faults source source_after status
+  pub writing : WritesFor sink_faults sink sink_after status
+  -- a command ends with Done or Refused by what its input is, which was read to its end; the sink was given the text for
+  -- that, and the watch was shown all of the command or nothing; where the sink failed it was given a front of the text
+  pub answers : (command : Command) → Spells words command
+      → AnswersFor (λ s. left_for command (left s)) held sink_calls source source_after sink sink_after
+      (AcceptedWith seen watch watch_after command) (RefusedWith watch watch_after command) status
+
+-- what is told of the refusal of an input: it is that of a command which the words spell, with the line there
+pub record IsToldBy (words : List (List ℕ)) (input : List ℕ) (told : Told) : Type 0 where
   pub command : Command
   pub spelled : Spells words command
-  pub input : List ℕ
-  pub given : GivesInput command before after input
-  pub holds : Holds command input
-
--- a command was spelled, given its input and carried out: a text is as told for it, the sink was given that text as
--- told, and the watch was shown what is told
-abbrev pub CarriedOut : List (List ℕ) → Option (List ℕ) → Option (List ℕ) → (Command → List ℕ → List ℕ → Type 0)
-    → (List ℕ → Type 0) → (Command → List ℕ → Type 0) → Type 0
-CarriedOut words before after IsText SinkIsGiven WatchIsShown = Given words before after (λ command input.
-    (text : List ℕ) × IsText command input text × SinkIsGiven text × WatchIsShown command input)
-
--- what a source has left is the input for a command, and not too long; a command that reads none has the empty input
-abbrev pub HasInput : Command → Option (List ℕ) → List ℕ → Type 0
-HasInput command left input = MatchBool (reads_input command) (IsInputLeft left input) (input ≡ [])
+  pub shows : ShowsRefusal command input told

@@ -1,7 +1,0 @@
--- The registers so far are taken in.
-use Rattle.std.proofs.Common.{◌≡◌, take}
-use Rattle.m88_cli.specs.Answer.Workload.{xor_of}
-use Rattle.m88_cli.proofs.commands.summary.xor_of.Given as goal
-
-abbrev pub invariant-loop-register : goal.invariant-loop-register
-invariant-loop-register l = l.all ≡ xor_of (take l.register-index l.registers)

@@ -1,0 +1,15 @@
+pub mod Numerals
+pub mod ScriptLines
+pub mod Scripts
+pub mod ScriptReading
+pub mod ScriptTold
+pub mod OneScript
+pub mod OneInput
+pub mod Unmade
+pub mod Ends
+pub mod MonitorWalks
+pub mod SessionEnds
+pub mod Tracing
+pub mod Carrying
+pub mod InputSessions
+pub mod Laws

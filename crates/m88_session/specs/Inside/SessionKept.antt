@@ -1,0 +1,85 @@
+-- Where the monitor stands, and what a command made of it.
+use Rattle.std.specs.Prelude.{ℕ, List, [], ◌∷◌, ◌++◌, ◌≡◌, ◌+◌, Option, Result, OnErr, OnOk, count_by, length}
+use Rattle.m88_event.specs.Timeline.{Moment, nip_at}
+use Rattle.m88_event.specs.declared.happened.Happened.{Happened}
+use Rattle.m88_event.specs.declared.letter.Letter.{Letter}
+use Rattle.m88_isa.specs.Held.{instruction_at}
+use Rattle.m88_isa.specs.Machine.{Program}
+use Rattle.m88_board.specs.Glances.{Saw}
+use Rattle.m88_board.specs.Moves.{IsAt}
+use Rattle.m88_board.specs.declared.glance.Glance.{Glance}
+use Rattle.m88_session.specs.Script.{is_break}
+use Rattle.m88_session.specs.Inside.Fronts.{IsSessionFront, MakesEach}
+use Rattle.m88_session.specs.Session.{Course, IsSession, Makes, Session, after_command, course_of, glances_of, opening_session, text_of_command}
+use Rattle.m88_session.specs.MonitorLines.{happened_line, letter_text}
+use Rattle.m88_session.specs.Settings.{Settings}
+use Rattle.m88_session.specs.declared.monitor.Monitor.{Monitor}
+use Rattle.m88_session.specs.declared.monitor.tracing.Before.{Before}
+use Rattle.m88_session.specs.declared.script.MonitorCommand.{MonitorCommand}
+
+-- the monitor stands where a session of a course stands
+pub record StandsAt (c : Course) (s : Session) (monitor : Monitor) : Type 0 where
+  pub schedule : monitor.walk.schedule.now ≡ c.schedule
+  pub limit : monitor.walk.board.now.limit ≡ c.limit
+  pub at : IsAt c.program c.named s.moment monitor.walk.board.now
+  pub taken : monitor.walk.taken ≡ s.taken
+  pub breakpoints : monitor.breakpoints.items ≡ s.breakpoints
+
+-- it made the events of a command
+pub record Went (c : Course) (s : Session) (command : MonitorCommand)
+    (before after : Option (List Glance)) (monitor : Monitor) : Type 0 where
+  pub events : ℕ
+  pub makes : Makes c s command events
+  pub stands : StandsAt c (after_command c s command events) monitor
+  pub saw : Saw before after (glances_of c s command events)
+
+-- and wrote its text
+pub record Carried (c : Course) (s : Session) (command : MonitorCommand)
+    (before after : Option (List Glance)) (old new : List ℕ) (monitor : Monitor) : Type 0 where
+  pub went : Went c s command before after monitor
+  pub text : new ≡ old ++ text_of_command c s command went.events
+
+-- memory ran out behind the first events of a command
+pub record Broke (c : Course) (s : Session) (command : MonitorCommand) (before after : Option (List Glance))
+    : Type 0 where
+  pub events : ℕ
+  pub each : MakesEach c s command events
+  pub saw : Saw before after (glances_of c s command events)
+
+-- what the monitor answers to a command, wherever in a session it stands: where the command was carried out, there are as
+-- many breakpoints more as it sets, and it went and wrote its text; and else memory ran out behind its first events
+pub record Carries {T E : Type 0} (command : MonitorCommand) (before after : Option (List Glance)) (old new : Monitor)
+    (text text' : List ℕ) (result : Result T E) : Type 0 where
+  pub set : OnOk result (length new.breakpoints.items
+      ≡ length old.breakpoints.items + count_by is_break (command ∷ []))
+  pub ok : OnOk result ((c : Course) (s : Session) → StandsAt c s old
+      → Carried c s command before after text text' new)
+  pub err : OnErr result ((c : Course) (s : Session) → StandsAt c s old → Broke c s command before after)
+
+-- what is noted before the event of a letter is so at a moment
+pub record IsBefore (p : Program) (letter : Letter) (m : Moment) (before : Before) : Type 0 where
+  pub number : before.number ≡ m.events + 1
+  pub letter_is : before.letter ≡ letter
+  pub address : before.address ≡ (nip_at p m).addr
+  pub instruction : before.instruction ≡ instruction_at p (nip_at p m).addr
+  pub fault : before.fault ≡ length m.records + 1
+
+-- the line of an event before which this was noted
+abbrev pub told_line : Before → Happened → List ℕ
+told_line before happened =
+    letter_text before.number before.letter
+    ++ happened_line before.address before.instruction before.fault happened
+
+-- a session over a program writes the text, and a watch was shown it
+pub record TellsSession (s : Settings) (commands : List MonitorCommand) (before after : Option (List Glance))
+    (text : List ℕ) (p : Program) : Type 0 where
+  pub glances : List Glance
+  pub is_session : IsSession (course_of p s) commands opening_session text glances
+  pub saw : Saw before after glances
+
+-- or a front of one
+pub record ShowsFront (s : Settings) (commands : List MonitorCommand) (before after : Option (List Glance))
+    (p : Program) : Type 0 where
+  pub glances : List Glance
+  pub is_front : IsSessionFront (course_of p s) commands opening_session glances
+  pub saw : Saw before after glances
