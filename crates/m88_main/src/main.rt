@@ -11,8 +11,8 @@ use crate::forms::{form_of, wanted};
 use crate::usage::{NoFile, Usage};
 use m88_base::{StdSink, StdSource};
 use m88_board::Unwatched;
-use m88_cli::{Status, m88};
-use m88_filter::{Filter, Keeping, Showing, Wanted, run, tell_refusal, tell_seen};
+use m88_cli::{Status, answer_command};
+use m88_filter::{Filter, Keeping, Wanted, run, tell_refusal, tell_seen};
 use std::path::Path;
 use std::process::ExitCode;
 
@@ -30,20 +30,20 @@ impl Filter for M88 {
             None => "",
         };
         let wanted = form_of(command).map_or(Wanted::Bytes, |form| wanted(form));
-        let reads_lines = wanted == Wanted::Source;
-        let mut source = Keeping::new(rt.alloc(), StdSource::new(rt.reader()), reads_lines);
-        let mut sink = Showing::new(rt.alloc(), StdSink::new(rt.stdout()));
+        let shows_line = wanted == Wanted::Source;
+        let mut source = Keeping::new(rt.alloc(), StdSource::new(rt.reader()), false);
+        let mut sink = StdSink::new(rt.stdout());
         let mut watch = Unwatched::new();
-        let status = m88(rt.alloc(), words, &mut source, &mut sink, &mut watch);
-        match status {
+        let answer = answer_command(rt.alloc(), words, &mut source, &mut sink, &mut watch);
+        match answer.status {
             Status::Usage => tell_usage(rt, words),
             Status::Refused => {
-                tell_refusal(rt, self.name(), command, sink.front(), source.kept());
+                tell_refusal(rt, self.name(), command, &answer.refused, shows_line);
                 tell_seen(rt, self.name(), source.front(), wanted);
             }
             _ => {}
         }
-        status
+        answer.status
     }
 }
 
