@@ -1,7 +1,6 @@
 -- A command writes one text for an input. What a command writes answers its input by a module of its own.
 pub mod Linked
 pub mod Listed
-pub mod InputSessions
 pub mod Paged
 use Rattle.std.proofs.Common.{◌≡◌, ℕ, List, ap, codes, subst, sym, ◌∙◌}
 use Rattle.m88_asm.proofs.Laws.{holds_of_same, one_image_of, one_list, one_source_image, one_source_program, same_programs}

@@ -70,58 +70,52 @@ spent may_stay limit l faults fault h = let most = one_at_most (not may_stay) in
 spent true limit l evicts fault h = omega arith
 spent false limit l evicts fault h = never h
 
--- the letter `i`: what it does is the turn of the next instruction, unless something holds it
-turn_spends : (may_stay : Bool) (limit : ℕ) (l : Local) (turn : Turn) → l.retired < limit → is_some l.ended ≡ false → TurnFits turn →
-    Spends may_stay limit l (turn_choice turn)
-turn_spends may_stay limit l (changes change) room lives fits = (room, fits.short)
-turn_spends may_stay limit l (outputs byte) room lives short = room
-turn_spends may_stay limit l (stops stop) room lives short = lives
-
 -- it is held, but then it may stay
 abbrev pub MayBeHeld : Bool → Option Hold → Type 0
 MayBeHeld may_stay None = Unit {0}
 MayBeHeld may_stay (Some why) = may_stay ≡ true
 
-next_spends : (may_stay : Bool) (limit : ℕ) (l : Local) (why : Option Hold) (turn : Turn) → l.retired < limit → is_some l.ended ≡ false →
-    TurnFits turn → MayBeHeld may_stay why →
-    Spends may_stay limit l (next_choice why turn)
-next_spends may_stay limit l None turn room lives short may = turn_spends may_stay limit l turn room lives short
-next_spends may_stay limit l (Some why) turn room lives short may = may
-
 -- where instructions may be issued, the program lives and the limit isn't reached
-lives_of : (ended reached : Bool) → (ended || reached) ≡ false → ended ≡ false
-lives_of true reached h = h
-lives_of false reached h = refl
-
-apart_of : (ended reached : Bool) → (ended || reached) ≡ false → reached ≡ false
-apart_of true reached h = absurd cc
-apart_of false reached h = h
+goes_of : (ended reached : Bool) → (ended || reached) ≡ false → (ended ≡ false) × (reached ≡ false)
+goes_of true reached h = absurd cc
+goes_of false reached h = (refl, h)
 
 room_of : (limit : ℕ) (l : Local) → l.retired ≤ limit → (is_some l.ended || l.retired == limit) ≡ false → l.retired < limit
 room_of limit l within h =
-    let apart : l.retired ≢ limit = eqb-false l.retired limit (apart_of (is_some l.ended) (l.retired == limit) h) in
+    let apart : l.retired ≢ limit = eqb-false l.retired limit (goes_of (is_some l.ended) (l.retired == limit) h).1 in
     omega (arith, within, apart)
 
-issue_spends : (may_stay : Bool) (limit : ℕ) (l : Local) (idle bubble : Bool) (why : Option Hold) (turn : Turn) →
-    l.retired ≤ limit → (is_some l.ended || l.retired == limit) ≡ idle → l.bubble ≡ bubble → TurnFits turn →
-    (idle ≡ true → may_stay ≡ true) → MayBeHeld may_stay why →
-    Spends may_stay limit l (issue_choice idle bubble why turn)
-issue_spends may_stay limit l true bubble why turn within e b short may held = may refl
-issue_spends may_stay limit l false true why turn within e b short may held = b
-issue_spends may_stay limit l false false why turn within e b short may held =
-    next_spends may_stay limit l why turn (room_of limit l within e) (lives_of (is_some l.ended) (l.retired == limit) e) short held
+module _ (may_stay : Bool) (limit : ℕ) (l : Local) where
+  -- the letter `i`: what it does is the turn of the next instruction, unless something holds it
+  turn_spends : (turn : Turn) → l.retired < limit → is_some l.ended ≡ false → TurnFits turn →
+      Spends may_stay limit l (turn_choice turn)
+  turn_spends (changes change) room lives fits = (room, fits.short)
+  turn_spends (outputs byte) room lives short = room
+  turn_spends (stops stop) room lives short = lives
 
--- the letter `r` answers the oldest transaction, unless none is pending
-page_spends : (may_stay : Bool) (limit : ℕ) (l : Local) (absent : Bool) → 1 ≤ length l.pending →
-    Spends may_stay limit l (if absent then faults else replies)
-page_spends may_stay limit l true h = h
-page_spends may_stay limit l false h = h
+  next_spends : (why : Option Hold) (turn : Turn) → l.retired < limit → is_some l.ended ≡ false → TurnFits turn →
+      MayBeHeld may_stay why → Spends may_stay limit l (next_choice why turn)
+  next_spends None turn room lives short may = turn_spends turn room lives short
+  next_spends (Some why) turn room lives short may = may
 
-answer_spends : (may_stay : Bool) (limit : ℕ) (l : Local) (pending : List Access) (absent : ℕ → Bool) →
-    length l.pending ≡ length pending → (is_pending pending ≡ false → may_stay ≡ true) →
-    Spends may_stay limit l (answer_choice pending absent)
-answer_spends may_stay limit l [] absent e may = may refl
-answer_spends may_stay limit l (x ∷ xs) absent e may = page_spends may_stay limit l (absent (page_number x.addr)) (omega (arith, e))
+  issue_spends : (idle bubble : Bool) (why : Option Hold) (turn : Turn) → l.retired ≤ limit →
+      (is_some l.ended || l.retired == limit) ≡ idle → l.bubble ≡ bubble → TurnFits turn →
+      (idle ≡ true → may_stay ≡ true) → MayBeHeld may_stay why →
+      Spends may_stay limit l (issue_choice idle bubble why turn)
+  issue_spends true bubble why turn within e b short may held = may refl
+  issue_spends false true why turn within e b short may held = b
+  issue_spends false false why turn within e b short may held =
+      next_spends why turn (room_of limit l within e) (goes_of (is_some l.ended) (l.retired == limit) e).0 short held
+
+  -- the letter `r` answers the oldest transaction, unless none is pending
+  page_spends : (absent : Bool) → 1 ≤ length l.pending → Spends may_stay limit l (if absent then faults else replies)
+  page_spends true h = h
+  page_spends false h = h
+
+  answer_spends : (pending : List Access) (absent : ℕ → Bool) → length l.pending ≡ length pending →
+      (is_pending pending ≡ false → may_stay ≡ true) → Spends may_stay limit l (answer_choice pending absent)
+  answer_spends [] absent e may = may refl
+  answer_spends (x ∷ xs) absent e may = page_spends (absent (page_number x.addr)) (omega (arith, e))
 
 always_may : (why : Option Hold) → MayBeHeld true why
 always_may None = tt
@@ -253,63 +247,60 @@ only_idle true idle e h = absurd cc
 only_idle false idle e h = h
 
 -- each letter takes 1 off the weight: inside the schedule, and behind it
-inside_lessens : (p : Program) (limit : ℕ) (schedule : List Letter) (k : ℕ) (l : Local) (letter : Letter) → IsProgram p → l.retired ≤ limit →
-    k < length schedule →
-    weight schedule limit (k + 1) (move p limit letter l) < weight schedule limit k l
-unfolding weight
-inside_lessens p limit schedule k l letter is within h =
-    let fuels = fuel_stays p limit letter l is within in
-    let old = inside_phase schedule k l h in
-    let new = next_phase schedule k (move p limit letter l) h in
-    rw (old, new) (omega (arith, fuels, h))
+module _ (p : Program) (limit : ℕ) (schedule : List Letter) (k : ℕ) (l : Local) (is : IsProgram p) (within : l.retired ≤ limit)
+  where
+    inside_lessens : (letter : Letter) → k < length schedule →
+        weight schedule limit (k + 1) (move p limit letter l) < weight schedule limit k l
+    unfolding weight
+    inside_lessens letter h =
+        let fuels = fuel_stays p limit letter l is within in
+        let old = inside_phase schedule k l h in
+        let new = next_phase schedule k (move p limit letter l) h in
+        rw (old, new) (omega (arith, fuels, h))
 
-answer_lessens : (p : Program) (limit : ℕ) (schedule : List Letter) (k : ℕ) (l : Local) (pending next : Bool) → IsProgram p → l.retired ≤ limit →
-    length schedule ≤ k → ((k - length schedule) % 2 == 0) ≡ true → is_pending l.pending ≡ pending →
-    is_pending (move p limit Answer l).pending ≡ next →
-    weight schedule limit (k + 1) (move p limit Answer l) < weight schedule limit k l
-unfolding weight
-answer_lessens p limit schedule k l true next is within h e some later =
-    let fuels = fuel_answered p limit l some in
-    let old = outside_phase schedule k l true true h e some in
-    let new = outside_phase schedule (k + 1) (move p limit Answer l) false next (omega (arith, h)) (other_turn k (length schedule) true h e) later in
-    let most = at_most_two false false next in
-    rw (old, new) (omega (arith, fuels, h, most))
-answer_lessens p limit schedule k l false next is within h e none later =
-    let fuels = fuel_stays p limit Answer l is within in
-    let old = outside_phase schedule k l true false h e none in
-    let new = outside_phase schedule (k + 1) (move p limit Answer l) false false (omega (arith, h)) (other_turn k (length schedule) true h e)
-    (still_none p limit l none) in
-    rw (old, new) (omega (arith, fuels, h))
+    answer_lessens : (pending next : Bool) → length schedule ≤ k → ((k - length schedule) % 2 == 0) ≡ true →
+        is_pending l.pending ≡ pending → is_pending (move p limit Answer l).pending ≡ next →
+        weight schedule limit (k + 1) (move p limit Answer l) < weight schedule limit k l
+    unfolding weight
+    answer_lessens true next h e some later =
+        let fuels = fuel_answered p limit l some in
+        let old = outside_phase schedule k l true true h e some in
+        let new = outside_phase schedule (k + 1) (move p limit Answer l) false next (omega (arith, h)) (other_turn k (length schedule) true h e) later in
+        let most = at_most_two false false next in
+        rw (old, new) (omega (arith, fuels, h, most))
+    answer_lessens false next h e none later =
+        let fuels = fuel_stays p limit Answer l is within in
+        let old = outside_phase schedule k l true false h e none in
+        let new = outside_phase schedule (k + 1) (move p limit Answer l) false false (omega (arith, h)) (other_turn k (length schedule) true h e)
+        (still_none p limit l none) in
+        rw (old, new) (omega (arith, fuels, h))
 
-issue_lessens : (p : Program) (limit : ℕ) (schedule : List Letter) (k : ℕ) (l : Local) (pending : Bool) → IsProgram p → l.retired ≤ limit →
-    length schedule ≤ k → ((k - length schedule) % 2 == 0) ≡ false → is_pending l.pending ≡ pending →
-    is_over_by limit l ≡ false →
-    weight schedule limit (k + 1) (move p limit Issue l) < weight schedule limit k l
-unfolding weight
-issue_lessens p limit schedule k l true is within h e some goes =
-    let fuels = fuel_stays p limit Issue l is within in
-    let old = outside_phase schedule k l false true h e some in
-    let new = outside_phase schedule (k + 1) (move p limit Issue l) true (is_pending (move p limit Issue l).pending) (omega (arith, h))
-    (other_turn k (length schedule) false h e) refl in
-    rw (old, new) (omega (arith, fuels, h))
-issue_lessens p limit schedule k l false is within h e none goes =
-    let fuels = fuel_issued p limit l is within none (only_idle (is_pending l.pending) (is_some l.ended || l.retired == limit) none goes) in
-    let old = outside_phase schedule k l false false h e none in
-    let new = outside_phase schedule (k + 1) (move p limit Issue l) true (is_pending (move p limit Issue l).pending) (omega (arith, h))
-    (other_turn k (length schedule) false h e) refl in
-    rw (old, new) (omega (arith, fuels, h))
+    issue_lessens : (pending : Bool) → length schedule ≤ k → ((k - length schedule) % 2 == 0) ≡ false →
+        is_pending l.pending ≡ pending → is_over_by limit l ≡ false →
+        weight schedule limit (k + 1) (move p limit Issue l) < weight schedule limit k l
+    unfolding weight
+    issue_lessens true h e some goes =
+        let fuels = fuel_stays p limit Issue l is within in
+        let old = outside_phase schedule k l false true h e some in
+        let new = outside_phase schedule (k + 1) (move p limit Issue l) true (is_pending (move p limit Issue l).pending) (omega (arith, h))
+        (other_turn k (length schedule) false h e) refl in
+        rw (old, new) (omega (arith, fuels, h))
+    issue_lessens false h e none goes =
+        let fuels = fuel_issued p limit l is within none (only_idle (is_pending l.pending) (is_some l.ended || l.retired == limit) none goes) in
+        let old = outside_phase schedule k l false false h e none in
+        let new = outside_phase schedule (k + 1) (move p limit Issue l) true (is_pending (move p limit Issue l).pending) (omega (arith, h))
+        (other_turn k (length schedule) false h e) refl in
+        rw (old, new) (omega (arith, fuels, h))
 
-pub lessens : (p : Program) (limit : ℕ) (schedule : List Letter) (k : ℕ) (l : Local) → IsProgram p → l.retired ≤ limit →
-    is_over_by limit l ≡ false →
-    weight schedule limit (k + 1) (move p limit (letter_at schedule k) l) < weight schedule limit k l
-lessens p limit schedule k l is within goes = by_test (nat_lt k (length schedule))
-    (λ inside. inside_lessens p limit schedule k l (letter_at schedule k) is within (ltb-true k (length schedule) inside))
-    (λ outside. let h = ltb-false k (length schedule) outside in
-    by_test ((k - length schedule) % 2 == 0)
-    (λ answer. rw (behind schedule k true h answer)
-    (answer_lessens p limit schedule k l (is_pending l.pending) (is_pending (move p limit Answer l).pending) is within h answer refl refl))
-    (λ issue. rw (behind schedule k false h issue)
-    (issue_lessens p limit schedule k l (is_pending l.pending) is within h issue refl goes)))
+    pub lessens : is_over_by limit l ≡ false →
+        weight schedule limit (k + 1) (move p limit (letter_at schedule k) l) < weight schedule limit k l
+    lessens goes = by_test (nat_lt k (length schedule))
+        (λ inside. inside_lessens (letter_at schedule k) (ltb-true k (length schedule) inside))
+        (λ outside. let h = ltb-false k (length schedule) outside in
+        by_test ((k - length schedule) % 2 == 0)
+        (λ answer. rw (behind schedule k true h answer)
+        (answer_lessens (is_pending l.pending) (is_pending (move p limit Answer l).pending) h answer refl refl))
+        (λ issue. rw (behind schedule k false h issue) (issue_lessens (is_pending l.pending) h issue refl goes)))
 
 -- an answer beside the run's letters takes some off as well, where something is pending
 no_later : (inside answer pending : Bool) → turns_left inside answer pending ≤ turns_left inside answer true
@@ -355,15 +346,9 @@ weight_at_start limit schedule l none =
 -- no more instructions are retired than the limit
 retired_by : (limit : ℕ) (l : Local) (choice : Choice) (fault : Record) → l.retired ≤ limit → Spends true limit l choice →
     (move_by choice fault l).retired ≤ limit
-retired_by limit l idles fault within h = within
-retired_by limit l passes fault within h = within
-retired_by limit l (holds why) fault within h = within
 retired_by limit l (issues change) fault within h = let room = h.0 in omega (arith, room)
 retired_by limit l (serves byte) fault within h = omega (arith, h)
-retired_by limit l (finishes stop) fault within h = within
-retired_by limit l replies fault within h = within
-retired_by limit l faults fault within h = within
-retired_by limit l evicts fault within h = within
+retired_by limit l _ fault within h = within
 
 pub stays_in_limit : (p : Program) (limit : ℕ) (letter : Letter) (l : Local) → IsProgram p → l.retired ≤ limit →
     (move p limit letter l).retired ≤ limit

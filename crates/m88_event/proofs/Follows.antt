@@ -1,5 +1,5 @@
 -- A move takes what a moment of the sequential machine's history looks like to what the next looks like.
-use Rattle.std.specs.Prelude.{ℕ, zero, suc, Bool, List, [], ◌∷◌, ◌++◌, ◌≡◌, ◌≤◌, ◌+◌, drop, is_some, take}
+use Rattle.std.specs.Prelude.{ℕ, zero, suc, List, [], ◌∷◌, ◌++◌, ◌≡◌, ◌≤◌, ◌+◌, drop, is_some, take}
 use Rattle.std.proofs.Common.{arith, add-one, refl, sym, ap, ◌∙◌}
 use Rattle.std.proofs.lemmas.List.{take-append-drop, take-append-le, take_all}
 use Rattle.m88_isa.proofs.Laws.{bus_of_append, state_agrees}
@@ -13,26 +13,24 @@ use Rattle.m88_event.specs.Letters.{letter_at}
 use Rattle.m88_event.specs.Local.{local_at, move, said_by, situation_of}
 use Rattle.m88_event.specs.Run.{moment_after, moment_along}
 use Rattle.m88_event.specs.Situation.{Situation, record_of}
-use Rattle.m88_event.specs.Timeline.{DoneWereMade, Moment, after_letter, end_at, history, opening_moment, said_at, situation_at}
+use Rattle.m88_event.specs.Timeline.{DoneWereMade, Moment, Run, after_letter, end_at, history, opening_moment, said_at, situation_at}
 use Rattle.m88_event.specs.declared.letter.Letter.{Letter}
 
 pub ended_is : (p : Program) (m : Moment) → is_some (end_at p m) ≡ m.ended
 ended_is p = end_seen (history p)
 
 -- what the next event depends on is what is seen of it
-pub same_situation : (p : Program) (named : ℕ → Bool) (limit : ℕ) (m : Moment) →
-    situation_of limit (local_at p named m) ≡ situation_at p named limit m
+pub same_situation : (r : Run) (m : Moment) → situation_of r.limit (local_at r m) ≡ situation_at r m
 unfolding situation_at local_at
-same_situation p = situation_seen (history p) (bus_at p)
+same_situation r = situation_seen (history r.program) (bus_at r.program) r
 
 -- a choice is one that a moment may have
 abbrev pub Fits : Program → Moment → Choice → Type 0
 Fits p = FitsAlong (history p)
 
-pub fits : (p : Program) (named : ℕ → Bool) (limit : ℕ) (letter : Letter) (m : Moment) →
-    Fits p m (choice_of p letter (situation_at p named limit m))
+pub fits : (r : Run) (letter : Letter) (m : Moment) → Fits r.program m (choice_of r.program letter (situation_at r m))
 unfolding situation_at
-fits p = fits_along (history p)
+fits r letter m = fits_along (history r.program) m r letter
 
 -- the transactions behind one more step
 pub more_transactions : (p : Program) (n : ℕ) (turn : Turn) → turn_at p (state p n) ≡ turn →
@@ -76,41 +74,36 @@ finished_bus p n done =
     sym (bus_of_append (take done (transactions p n)) (pending_at p n done) (in_words (opening p).memory))
     ∙ ap (λ xs. bus_after_all xs (in_words (opening p).memory)) (take-append-drop done (transactions p n) ∙ sym (take_all (transaction_count p n) (transactions p n) (omega arith)))
 
-pub law : (p : Program) (named : ℕ → Bool) (limit : ℕ) (letter : Letter) (m : Moment) →
-    IsProgram p →
-    DoneWereMade p m →
-    move p limit letter (local_at p named m) ≡ local_at p named (after_letter p named limit letter m)
+pub law : (r : Run) (letter : Letter) (m : Moment) → IsProgram r.program → DoneWereMade r.program m →
+    move r.program r.limit letter (local_at r m) ≡ local_at r (after_letter r letter m)
 unfolding local_at after_letter situation_at
-law p named limit letter m bytes made = law_along (history p) (bus_at p) named limit letter m (record {
+law r letter m bytes made = law_along (history r.program) (bus_at r.program) r m (record {
   within = made;
-  changed = λ change e. one_step p m (changes change) bytes made e;
-  put_out = λ byte e. one_step p m (outputs byte) bytes made e;
-  answered = λ some. answered_bus p m.retired m.done;
-  finished = finished_bus p m.retired m.done;
-})
+  changed = λ change e. one_step r.program m (changes change) bytes made e;
+  put_out = λ byte e. one_step r.program m (outputs byte) bytes made e;
+  answered = λ some. answered_bus r.program m.retired m.done;
+  finished = finished_bus r.program m.retired m.done;
+}) letter
 
 -- and it says the same
-pub same_said : (p : Program) (named : ℕ → Bool) (limit : ℕ) (letter : Letter) (m : Moment) →
-    said_by p limit letter (local_at p named m) ≡ said_at p named limit letter m
+pub same_said : (r : Run) (letter : Letter) (m : Moment) →
+    said_by r.program r.limit letter (local_at r m) ≡ said_at r letter m
 unfolding said_by said_at
-same_said p named limit letter m =
-    ap (λ (s : Situation). said (choice_of p letter s) (record_of p s)) (same_situation p named limit m)
+same_said r letter m =
+    ap (λ (s : Situation). said (choice_of r.program letter s) (record_of r.program s)) (same_situation r m)
 
 -- no more transactions are done than were made, at first and after each letter
-pub stays_within : (p : Program) (named : ℕ → Bool) (limit : ℕ) (letter : Letter) (m : Moment) →
-    DoneWereMade p m →
-    DoneWereMade p (after_letter p named limit letter m)
+pub stays_within : (r : Run) (letter : Letter) (m : Moment) → DoneWereMade r.program m →
+    DoneWereMade r.program (after_letter r letter m)
 unfolding after_letter
-stays_within p named limit letter m made =
-    within_along (history p) m (choice_of p letter (situation_at p named limit m)) (record_of p (situation_at p named limit m)) made
-    (fits p named limit letter m) (more_transactions p m.retired)
+stays_within r letter m made =
+    within_along (history r.program) m (choice_of r.program letter (situation_at r m)) (record_of r.program (situation_at r m)) made
+    (fits r letter m) (more_transactions r.program m.retired)
 
 pub begins_within : (p : Program) → DoneWereMade p opening_moment
 begins_within p = omega arith
 
-pub reached_within : (p : Program) (named : ℕ → Bool) (limit : ℕ) (schedule : List Letter) (k : ℕ) →
-    DoneWereMade p (moment_after p named limit schedule k)
+pub reached_within : (r : Run) (k : ℕ) → DoneWereMade r.program (moment_after r k)
 unfolding moment_along
-reached_within p named limit schedule zero = begins_within p
-reached_within p named limit schedule (suc k) =
-    stays_within p named limit (letter_at schedule k) (moment_after p named limit schedule k) (reached_within p named limit schedule k)
+reached_within r zero = begins_within r.program
+reached_within r (suc k) = stays_within r (letter_at r.schedule k) (moment_after r k) (reached_within r k)

@@ -94,13 +94,11 @@ own_there byte h =
 
 pub own_back : (letter : Letter) → letter_of (letter_byte letter) ≡ letter
 own_back Issue = refl
-own_back Answer = refl
-own_back Evict = refl
+own_back _ = refl
 
 pub own_has : (others : List ℕ) (letter : Letter) → is_letter others (letter_byte letter) ≡ true
 own_has others Issue = refl
-own_has others Answer = refl
-own_has others Evict = refl
+own_has others _ = refl
 
 pub own_letters : AreSpelled [] letter_byte letter_of
 own_letters = record { dash = refl; there = own_there; back = own_back; has = own_has [] }

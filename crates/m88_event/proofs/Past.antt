@@ -19,7 +19,7 @@ use Rattle.m88_event.specs.Letters.{letter_at}
 use Rattle.m88_event.specs.Past.{HasInstructions, HasPast}
 use Rattle.m88_event.specs.Run.{moment_after, moment_along}
 use Rattle.m88_event.specs.Situation.{record_of}
-use Rattle.m88_event.specs.Timeline.{DoneWereMade, Moment, absent_at, after_choice, after_letter, is_idle, opening_moment, situation_at}
+use Rattle.m88_event.specs.Timeline.{DoneWereMade, Moment, Run, absent_at, after_choice, after_letter, is_idle, opening_moment, situation_at}
 use Rattle.m88_event.specs.declared.letter.Letter.{Letter}
 use Rattle.m88_event.specs.declared.letter.Letter.TheVariants.{Issue, Answer, Evict}
 use Rattle.m88_event.specs.declared.record.Record.{Record}
@@ -50,21 +50,12 @@ out_within p (suc n) = turn_out (turn_at p (state p n)) (state p n) n (out_withi
 
 -- an instruction is issued, served or ended by only where more may be issued, and its accesses have room; the program
 -- ends by none that is passed over
-abbrev HasRoom : Program → ℕ → Moment → Choice → Type 0
-HasRoom p limit m (issues change) =
-    (is_idle limit m ≡ false) × (length (pending_at p m.retired m.done) + length change.touches ≤ most_pending)
-HasRoom p limit m (serves byte) = is_idle limit m ≡ false
-HasRoom p limit m (finishes stop) = (is_idle limit m ≡ false) × (m.bubble ≡ false)
-HasRoom p limit m _ = Unit {0}
-
-room_of_turn : (p : Program) (limit : ℕ) (m : Moment) (turn : Turn) → is_idle limit m ≡ false →
-    m.bubble ≡ false →
-    exceeds turn (length (pending_at p m.retired m.done)) ≡ false →
-    HasRoom p limit m (turn_choice turn)
-room_of_turn p limit m (changes change) goes straight room =
-    (goes, ltb-false most_pending (length (pending_at p m.retired m.done) + length change.touches) room)
-room_of_turn p limit m (outputs byte) goes straight room = goes
-room_of_turn p limit m (stops stop) goes straight room = (goes, straight)
+abbrev HasRoom : Run → Moment → Choice → Type 0
+HasRoom r m (issues change) =
+    (is_idle r m ≡ false) × (length (pending_at r.program m.retired m.done) + length change.touches ≤ most_pending)
+HasRoom r m (serves byte) = is_idle r m ≡ false
+HasRoom r m (finishes stop) = (is_idle r m ≡ false) × (m.bubble ≡ false)
+HasRoom r m _ = Unit {0}
 
 -- where nothing holds it, its accesses aren't too many
 not_full : (least : Option ℕ) (no_room some : Bool) → first_reason least no_room some ≡ None → no_room ≡ false
@@ -72,50 +63,54 @@ not_full (Some register) no_room some h = absurd cc
 not_full None true some h = absurd cc
 not_full None false some h = refl
 
-room_of_next : (p : Program) (limit : ℕ) (m : Moment) (i : Option Instr) (turn : Turn) (why : Option Hold) →
-    held i turn (pending_at p m.retired m.done) ≡ why → is_idle limit m ≡ false →
-    m.bubble ≡ false →
-    HasRoom p limit m (next_choice why turn)
-room_of_next p limit m i turn None free goes straight =
-    let pending : List Access = pending_at p m.retired m.done in
-    room_of_turn p limit m turn goes straight
-    (not_full (busy_register i pending) (exceeds turn (length pending)) (is_pending pending && needs_empty i turn) free)
-room_of_next p limit m i turn (Some why) free goes straight = tt
+module _ (r : Run) (m : Moment) where
+  room_of_turn : (turn : Turn) → is_idle r m ≡ false → m.bubble ≡ false →
+      exceeds turn (length (pending_at r.program m.retired m.done)) ≡ false → HasRoom r m (turn_choice turn)
+  room_of_turn (changes change) goes straight room =
+      (goes, ltb-false most_pending (length (pending_at r.program m.retired m.done) + length change.touches) room)
+  room_of_turn (outputs byte) goes straight room = goes
+  room_of_turn (stops stop) goes straight room = (goes, straight)
 
-room_of_issue : (p : Program) (limit : ℕ) (m : Moment) (i : Option Instr) (turn : Turn) (idle bubble : Bool) →
-    is_idle limit m ≡ idle →
-    m.bubble ≡ bubble →
-    HasRoom p limit m (issue_choice idle bubble (held i turn (pending_at p m.retired m.done)) turn)
-room_of_issue p limit m i turn true bubble goes passed = tt
-room_of_issue p limit m i turn false true goes passed = tt
-room_of_issue p limit m i turn false false goes straight =
-    room_of_next p limit m i turn (held i turn (pending_at p m.retired m.done)) refl goes straight
+  room_of_next : (i : Option Instr) (turn : Turn) (why : Option Hold) →
+      held i turn (pending_at r.program m.retired m.done) ≡ why → is_idle r m ≡ false → m.bubble ≡ false →
+      HasRoom r m (next_choice why turn)
+  room_of_next i turn None free goes straight =
+      let pending : List Access = pending_at r.program m.retired m.done in
+      room_of_turn turn goes straight
+      (not_full (busy_register i pending) (exceeds turn (length pending)) (is_pending pending && needs_empty i turn) free)
+  room_of_next i turn (Some why) free goes straight = tt
 
-room_of_page : (p : Program) (limit : ℕ) (m : Moment) (absent : Bool) → HasRoom p limit m (if absent then faults else replies)
-room_of_page p limit m true = tt
-room_of_page p limit m false = tt
+  room_of_issue : (i : Option Instr) (turn : Turn) (idle bubble : Bool) → is_idle r m ≡ idle → m.bubble ≡ bubble →
+      HasRoom r m (issue_choice idle bubble (held i turn (pending_at r.program m.retired m.done)) turn)
+  room_of_issue i turn true bubble goes passed = tt
+  room_of_issue i turn false true goes passed = tt
+  room_of_issue i turn false false goes straight =
+      room_of_next i turn (held i turn (pending_at r.program m.retired m.done)) refl goes straight
 
-room_of_answer : (p : Program) (limit : ℕ) (m : Moment) (pending : List Access) (absent : ℕ → Bool) →
-    HasRoom p limit m (answer_choice pending absent)
-room_of_answer p limit m [] absent = tt
-room_of_answer p limit m (x ∷ xs) absent = room_of_page p limit m (absent (page_number x.addr))
+  room_of_page : (absent : Bool) → HasRoom r m (if absent then faults else replies)
+  room_of_page true = tt
+  room_of_page false = tt
 
-has_room : (p : Program) (named : ℕ → Bool) (limit : ℕ) (letter : Letter) (m : Moment) →
-    HasRoom p limit m (choice_of p letter (situation_at p named limit m))
-unfolding situation_at
-has_room p named limit Issue m =
-    room_of_issue p limit m (instruction_at p (state p m.retired).pc) (turn_at p (state p m.retired)) (is_idle limit m) m.bubble refl refl
-has_room p named limit Answer m = room_of_answer p limit m (pending_at p m.retired m.done) (absent_at named m)
-has_room p named limit Evict m = tt
+  room_of_answer : (pending : List Access) (absent : ℕ → Bool) → HasRoom r m (answer_choice pending absent)
+  room_of_answer [] absent = tt
+  room_of_answer (x ∷ xs) absent = room_of_page (absent (page_number x.addr))
+
+  has_room : (letter : Letter) → HasRoom r m (choice_of r.program letter (situation_at r m))
+  unfolding situation_at
+  has_room Issue =
+      room_of_issue (instruction_at r.program (state r.program m.retired).pc) (turn_at r.program (state r.program m.retired))
+      (is_idle r m) m.bubble refl refl
+  has_room Answer = room_of_answer (pending_at r.program m.retired m.done) (absent_at r m)
+  has_room Evict = tt
 
 -- where more may be issued, fewer instructions are retired than the limit
 not_reached : (ended reached : Bool) → (ended || reached) ≡ false → reached ≡ false
 not_reached true reached h = absurd cc
 not_reached false reached h = h
 
-fewer : (limit : ℕ) (m : Moment) → m.retired ≤ limit → is_idle limit m ≡ false → m.retired < limit
-fewer limit m within goes =
-    let apart : m.retired ≢ limit = eqb-false m.retired limit (not_reached m.ended (m.retired == limit) goes) in
+fewer : (r : Run) (m : Moment) → m.retired ≤ r.limit → is_idle r m ≡ false → m.retired < r.limit
+fewer r m within goes =
+    let apart : m.retired ≢ r.limit = eqb-false m.retired r.limit (not_reached m.ended (m.retired == r.limit) goes) in
     omega (arith, within, apart)
 
 -- one instruction more, by which the program doesn't end
@@ -135,63 +130,60 @@ more_pending p m turn is room =
     omega (arith, more, split, left, room)
 
 -- a choice keeps it
-by_choice : (p : Program) (limit : ℕ) (m : Moment) (choice : Choice) (fault : Record) →
-    HasPast p limit m →
-    Fits p m choice →
-    HasRoom p limit m choice →
-    (IsLastChoice choice → m.done ≡ transaction_count p m.retired) →
-    HasPast p limit (after_choice (pending_at p m.retired m.done) choice fault m)
-by_choice p limit m idles fault past fit room drained = past
-by_choice p limit m passes fault past fit room drained = record {
+by_choice : (r : Run) (m : Moment) (choice : Choice) (fault : Record) → HasPast r m → Fits r.program m choice → HasRoom r m choice →
+    (IsLastChoice choice → m.done ≡ transaction_count r.program m.retired) →
+    HasPast r (after_choice (pending_at r.program m.retired m.done) choice fault m)
+by_choice r m idles fault past fit room drained = past
+by_choice r m passes fault past fit room drained = record {
   within = past.within;
   retired = past.retired;
   pending = past.pending;
-  ended = λ ended. let end = past.ended ended in record { next = end.next; early = end.early; drained = end.drained };
+  ended = past.ended;
   bubbled = λ bubble. absurd cc;
   unbubbled = λ ended. refl;
   counted = past.counted;
   put_out = past.put_out;
 }
-by_choice p limit m (holds why) fault past fit room drained = past
-by_choice p limit m (issues change) fault past fit room drained =
-    let less = fewer limit m past.within room.0 in
+by_choice r m (holds why) fault past fit room drained = past
+by_choice r m (issues change) fault past fit room drained =
+    let less = fewer r m past.within room.0 in
     let accesses = length-map change.touches access_of in
     let most = room.1 in
     record {
       within = omega (arith, less);
-      retired = one_more p m.retired past.retired (ap is_stop fit.0);
-      pending = more_pending p m (changes change) fit.0 (omega (arith, accesses, most));
+      retired = one_more r.program m.retired past.retired (ap is_stop fit.0);
+      pending = more_pending r.program m (changes change) fit.0 (omega (arith, accesses, most));
       ended = λ ended. absurd (let lives = fit.1 in cc);
       bubbled = λ bubble. record { before = m.retired; change = change; last = refl; turn = fit.0; flows = bubble };
       unbubbled = λ ended. absurd (let lives = fit.1 in cc);
       counted = past.counted;
-      put_out = out_within p (m.retired + 1);
+      put_out = out_within r.program (m.retired + 1);
     }
-by_choice p limit m (serves byte) fault past fit room drained =
-    let less = fewer limit m past.within room in
-    let left = length-drop m.done (transactions p m.retired) in
+by_choice r m (serves byte) fault past fit room drained =
+    let less = fewer r m past.within room in
+    let left = length-drop m.done (transactions r.program m.retired) in
     let most = past.pending in
     record {
       within = omega (arith, less);
-      retired = one_more p m.retired past.retired (ap is_stop fit.0);
-      pending = more_pending p m (outputs byte) fit.0 (omega (arith, left, most));
+      retired = one_more r.program m.retired past.retired (ap is_stop fit.0);
+      pending = more_pending r.program m (outputs byte) fit.0 (omega (arith, left, most));
       ended = λ ended. absurd (let lives = fit.1 in cc);
       bubbled = λ bubble. absurd cc;
       unbubbled = λ ended. refl;
       counted = past.counted;
-      put_out = out_within p (m.retired + 1);
+      put_out = out_within r.program (m.retired + 1);
     }
-by_choice p limit m (finishes stop) fault past fit room drained = record {
+by_choice r m (finishes stop) fault past fit room drained = record {
   within = past.within;
   retired = past.retired;
   pending = past.pending;
-  ended = λ ended. record { next = ap is_stop fit.0; early = fewer limit m past.within room.0; drained = drained tt };
+  ended = λ ended. record { next = ap is_stop fit.0; early = fewer r m past.within room.0; drained = drained tt };
   bubbled = past.bubbled;
   unbubbled = λ ended. room.1;
   counted = past.counted;
   put_out = past.put_out;
 }
-by_choice p limit m replies fault past fit room drained =
+by_choice r m replies fault past fit room drained =
     let most = past.pending in
     let told = past.counted in
     record {
@@ -204,60 +196,51 @@ by_choice p limit m replies fault past fit room drained =
       counted = omega (arith, told);
       put_out = past.put_out;
     }
-by_choice p limit m faults fault past fit room drained =
+by_choice r m faults fault past fit room drained =
     let told = past.counted in
     let more = length-append m.records (fault ∷ []) in
-    let left = length-drop m.done (transactions p m.retired) in
+    let left = length-drop m.done (transactions r.program m.retired) in
     let most = past.pending in
     record {
       within = past.within;
       retired = past.retired;
       pending = omega (arith, most);
-      ended = λ ended.
-          let end = past.ended ended in
-          let all = end.drained in
-          record { next = end.next; early = end.early; drained = omega (arith, left, all) };
+      ended = λ ended. let all = (past.ended ended).drained in absurd (omega (arith, all, fit));
       bubbled = past.bubbled;
       unbubbled = past.unbubbled;
       counted = omega (arith, told, more, left, fit);
       put_out = past.put_out;
     }
-by_choice p limit m evicts fault past fit room drained =
-    record {
-      within = past.within;
-      retired = past.retired;
-      pending = past.pending;
-      ended = λ ended. let end = past.ended ended in record { next = end.next; early = end.early; drained = end.drained };
-      bubbled = past.bubbled;
-      unbubbled = past.unbubbled;
-      counted = past.counted;
-      put_out = past.put_out;
-    }
+by_choice r m evicts fault past fit room drained = record {
+  within = past.within;
+  retired = past.retired;
+  pending = past.pending;
+  ended = past.ended;
+  bubbled = past.bubbled;
+  unbubbled = past.unbubbled;
+  counted = past.counted;
+  put_out = past.put_out;
+}
 
-pub keeps_past : (p : Program) (named : ℕ → Bool) (limit : ℕ) (letter : Letter) (m : Moment) →
-    DoneWereMade p m →
-    HasPast p limit m →
-    HasPast p limit (after_letter p named limit letter m)
+pub keeps_past : (r : Run) (letter : Letter) (m : Moment) → DoneWereMade r.program m → HasPast r m → HasPast r (after_letter r letter m)
 unfolding after_letter
-keeps_past p named limit letter m made past =
-    let choice : Choice = choice_of p letter (situation_at p named limit m) in
-    let fault : Record = record_of p (situation_at p named limit m) in
-    let next = by_choice p limit m choice fault past (fits p named limit letter m) (has_room p named limit letter m)
-    (all_done p named limit letter m made) in
+keeps_past r letter m made past =
+    let next = by_choice r m (choice_of r.program letter (situation_at r m)) (record_of r.program (situation_at r m)) past
+    (fits r letter m) (has_room r m letter) (all_done r letter m made) in
     record {
       within = next.within;
       retired = next.retired;
       pending = next.pending;
-      ended = λ ended. let end = next.ended ended in record { next = end.next; early = end.early; drained = end.drained };
+      ended = next.ended;
       bubbled = next.bubbled;
       unbubbled = next.unbubbled;
       counted = next.counted;
       put_out = next.put_out;
     }
 
-pub opens_with : (p : Program) (limit : ℕ) → HasPast p limit opening_moment
+pub opens_with : (r : Run) → HasPast r opening_moment
 unfolding transactions
-opens_with p limit = record {
+opens_with r = record {
   within = omega arith;
   retired = λ k h. absurd (omega (arith, h));
   pending = omega arith;
@@ -265,35 +248,25 @@ opens_with p limit = record {
   bubbled = λ bubble. absurd cc;
   unbubbled = λ ended. refl;
   counted = omega arith;
-  put_out = out_within p 0;
+  put_out = out_within r.program 0;
 }
 
 -- what lies behind each moment of a run
-pub past_after : (p : Program) (named : ℕ → Bool) (limit : ℕ) (schedule : List Letter) (k : ℕ) →
-    HasPast p limit (moment_after p named limit schedule k)
+pub past_after : (r : Run) (k : ℕ) → HasPast r (moment_after r k)
 unfolding moment_along
-past_after p named limit schedule zero = opens_with p limit
-past_after p named limit schedule (suc k) =
-    keeps_past p named limit (letter_at schedule k) (moment_after p named limit schedule k)
-    (reached_within p named limit schedule k) (past_after p named limit schedule k)
+past_after r zero = opens_with r
+past_after r (suc k) = keeps_past r (letter_at r.schedule k) (moment_after r k) (reached_within r k) (past_after r k)
 
 -- each event is counted
 choice_events : (pending : List Access) (choice : Choice) (fault : Record) (m : Moment) →
     (after_choice pending choice fault m).events ≡ m.events
 choice_events pending idles fault m = refl
-choice_events pending passes fault m = refl
-choice_events pending (holds why) fault m = refl
-choice_events pending (issues change) fault m = refl
-choice_events pending (serves byte) fault m = refl
-choice_events pending (finishes stop) fault m = refl
-choice_events pending replies fault m = refl
-choice_events pending faults fault m = refl
-choice_events pending evicts fault m = refl
+choice_events pending _ fault m = refl
 
-pub letter_events : (p : Program) (named : ℕ → Bool) (limit : ℕ) (letter : Letter) (m : Moment) →
-    (after_letter p named limit letter m).events ≡ m.events + 1
+pub letter_events : (r : Run) (letter : Letter) (m : Moment) →
+    (after_letter r letter m).events ≡ m.events + 1
 unfolding after_letter
-letter_events p named limit letter m =
+letter_events r letter m =
     ap (λ (n : ℕ). n + 1)
-    (choice_events (pending_at p m.retired m.done) (choice_of p letter (situation_at p named limit m))
-    (record_of p (situation_at p named limit m)) m)
+    (choice_events (pending_at r.program m.retired m.done) (choice_of r.program letter (situation_at r m))
+    (record_of r.program (situation_at r m)) m)

@@ -13,7 +13,7 @@ use Rattle.m88_isa.specs.declared.instr.Instr.{Instr}
 use Rattle.m88_isa.specs.declared.planned.Access.{Access}
 use Rattle.m88_event.specs.Choice.{Choice, ServesOrEnds, answer_choice, choice_of, evicts, faults, finishes, holds, idles, issue_choice, issues, next_choice, next_turn, passes, replies, said, serves, turn_choice}
 use Rattle.m88_event.specs.Local.{Local, said_by, situation_of}
-use Rattle.m88_event.specs.Timeline.{DoneWereMade, Moment, situation_at}
+use Rattle.m88_event.specs.Timeline.{DoneWereMade, Moment, Run, situation_at}
 use Rattle.m88_event.specs.Situation.{Situation, record_of}
 use Rattle.m88_event.specs.declared.letter.Letter.{Letter}
 use Rattle.m88_event.specs.declared.letter.Letter.TheVariants.{Issue, Answer, Evict}
@@ -76,8 +76,7 @@ IsLastChoice evicts = ⊥
 
 by_turn : (t : Turn) → IsLastChoice (turn_choice t) → IsLast t
 by_turn (changes change) last = last
-by_turn (outputs byte) last = tt
-by_turn (stops stop) last = tt
+by_turn _ last = tt
 
 by_hold : (i : Option Instr) (t : Turn) (pending : List Access) (why : Option Hold) → held i t pending ≡ why →
     (IsLast t → needs_empty i t ≡ true) →
@@ -112,14 +111,7 @@ precise_choice p Evict s last = absurd last
 
 last_said : (choice : Choice) (fault : Record) → ServesOrEnds (said choice fault) → IsLastChoice choice
 last_said idles fault h = h
-last_said passes fault h = h
-last_said (holds why) fault h = h
-last_said (issues change) fault h = h
-last_said (serves byte) fault h = h
-last_said (finishes stop) fault h = h
-last_said replies fault h = h
-last_said faults fault h = h
-last_said evicts fault h = h
+last_said _ fault h = h
 
 -- on a board
 pub precise_by : (p : Program) (limit : ℕ) (letter : Letter) (l : Local) → ServesOrEnds (said_by p limit letter l) →
@@ -137,9 +129,9 @@ nothing_left done xs within none = by_left (drop done xs) (length-drop done xs) 
     by_left [] e none = omega (arith, e, within)
     by_left (x ∷ left) e none = absurd cc
 
-pub all_done : (p : Program) (named : ℕ → Bool) (limit : ℕ) (letter : Letter) (m : Moment) → DoneWereMade p m →
-    IsLastChoice (choice_of p letter (situation_at p named limit m)) →
-    m.done ≡ transaction_count p m.retired
+pub all_done : (r : Run) (letter : Letter) (m : Moment) → DoneWereMade r.program m →
+    IsLastChoice (choice_of r.program letter (situation_at r m)) →
+    m.done ≡ transaction_count r.program m.retired
 unfolding situation_at
-all_done p named limit letter m within last =
-    nothing_left m.done (transactions p m.retired) within (precise_choice p letter (situation_at p named limit m) last)
+all_done r letter m within last =
+    nothing_left m.done (transactions r.program m.retired) within (precise_choice r.program letter (situation_at r m) last)

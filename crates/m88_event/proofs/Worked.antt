@@ -21,7 +21,7 @@ use Rattle.m88_isa.specs.declared.instr.RegOp.{RegOp}
 use Rattle.m88_event.specs.Letters.{letter_at}
 use Rattle.m88_event.specs.Run.{moment_after, moment_along}
 use Rattle.m88_event.specs.Situation.{record_of}
-use Rattle.m88_event.specs.Timeline.{Moment, after_letter, end_at, is_over, opening_moment, situation_at, xip_along}
+use Rattle.m88_event.specs.Timeline.{Moment, Run, after_letter, end_at, is_over, opening_moment, run_with, situation_at, xip_along}
 use Rattle.m88_event.specs.declared.happened.End.{End}
 use Rattle.m88_event.specs.declared.happened.End.TheVariants.{Limit, Exit, Vector}
 use Rattle.m88_event.specs.declared.letter.Letter.{Letter}
@@ -82,11 +82,10 @@ pub record Worked : Type 0 where
   pub comes : Came
 
 -- the events up to the first moment that is over, from a moment after some events on
-abbrev events_from : Program → Worked → ℕ → ℕ → Moment → ℕ
-events_from p w zero k m = k
-events_from p w (suc most) k m =
-    if is_over p w.limit m then k
-    else events_from p w most (k + 1) (after_letter p (named w.pages) w.limit (letter_at w.schedule k) m)
+abbrev events_from : Run → ℕ → ℕ → Moment → ℕ
+events_from run zero k m = k
+events_from run (suc most) k m =
+    if is_over run m then k else events_from run most (k + 1) (after_letter run (letter_at run.schedule k) m)
 
 -- what a moment shows
 abbrev came_at : Program → List (ℕ × ℕ) → ℕ → Moment → Came
@@ -102,13 +101,13 @@ came_at p words events m = record {
 }
 
 -- what a run comes to by the definitions
-abbrev came_after : Program → Worked → ℕ → Came
-came_after p w events =
-    came_at p w.comes.words events (moment_after p (named w.pages) w.limit w.schedule events)
+abbrev came_by : Run → List (ℕ × ℕ) → Came
+came_by run words =
+    let events : ℕ = events_from run 100 0 opening_moment in
+    came_at run.program words events (moment_after run events)
 
 abbrev pub came : Worked → Came
-came w =
-    came_after (program w.mxm w.code w.bytes) w (events_from (program w.mxm w.code w.bytes) w 100 0 opening_moment)
+came w = came_by (run_with (program w.mxm w.code w.bytes) (named w.pages) w.limit w.schedule) w.comes.words
 
 -- instructions and words in short
 abbrev pub im : ImmOp → ℕ → ℕ → ℕ → Option Instr
@@ -140,354 +139,76 @@ fault event sxip snip sfip ssbr triples = record {
   triples = triples;
 }
 
+-- what a run comes to at its limit, in so many events: nothing else is seen
+abbrev pub limited : ℕ → ℕ → List (ℕ × ℕ) → ℕ → Came
+limited events retired registers answers = record {
+  events = events;
+  end = Limit;
+  retired = retired;
+  registers = registers;
+  words = [];
+  out = [];
+  answers = answers;
+  records = [];
+}
+
+-- a run of some instructions with a limit: MXM clear, no data, no absent page, no schedule
+abbrev pub plain_run : List (Option Instr) → ℕ → Came → Worked
+plain_run code limit comes =
+    record { mxm = false; code = code; bytes = []; pages = []; limit = limit; schedule = []; comes = comes }
+
 worked : List Worked
 worked =
     -- no word to fetch
-    record {
-      mxm = false;
-      code = [];
-      bytes = [];
-      pages = [];
-      limit = 1;
-      schedule = [];
-      comes = record {
-        events = 2;
-        end = Vector 2 0x1000;
-        retired = 0;
-        registers = [];
-        words = [];
-        out = [];
-        answers = 0;
-        records = [];
-      };
-    }
+    plain_run [] 1 (record (limited 2 0 [] 0) { end = Vector 2 0x1000 })
     -- an output and an exit
-    ∷ record {
-      mxm = false;
-      code = im immop.Or 2 0 65 ∷ im immop.Or 9 0 0x20 ∷ trap ∷ im immop.Or 9 0 0x63 ∷ trap ∷ [];
-      bytes = [];
-      pages = [];
-      limit = 100;
-      schedule = [];
-      comes = record {
-        events = 10;
-        end = Exit 0x1010;
-        retired = 4;
-        registers = (2, 0x41) ∷ (9, 0x63) ∷ [];
-        words = [];
-        out = 0x41 ∷ [];
-        answers = 0;
-        records = [];
-      };
-    }
+    ∷ plain_run (im immop.Or 2 0 65 ∷ im immop.Or 9 0 0x20 ∷ trap ∷ im immop.Or 9 0 0x63 ∷ trap ∷ []) 100
+    (record (limited 10 4 ((2, 0x41) ∷ (9, 0x63) ∷ []) 0) { end = Exit 0x1010; out = 0x41 ∷ [] })
     -- three loads from absent pages
-    ∷ record {
-      mxm = false;
-      code = mem memop.Ld 2 0x5000 ∷ mem memop.Ld 3 0x6000 ∷ mem memop.Ld 4 0x7000 ∷ [];
-      bytes = [];
-      pages = 5 ∷ 6 ∷ 7 ∷ [];
-      limit = 3;
-      schedule = i ∷ i ∷ i ∷ r ∷ [];
-      comes = record {
-        events = 4;
-        end = Limit;
-        retired = 3;
-        registers = [];
-        words = [];
-        out = [];
-        answers = 0;
-        records =
-            fault 4 0x100A 0x100F 0x1013 0x1C (triple 0x13D 0 0x5000 ∷ triple 0x1BD 0 0x6000 ∷ triple 0x23D 0 0x7000 ∷ []) ∷ [];
-      };
-    }
+    ∷ record (plain_run (mem memop.Ld 2 0x5000 ∷ mem memop.Ld 3 0x6000 ∷ mem memop.Ld 4 0x7000 ∷ []) 3
+    (record (limited 4 3 [] 0) { records = fault 4 0x100A 0x100F 0x1013 0x1C (triple 0x13D 0 0x5000 ∷ triple 0x1BD 0 0x6000 ∷ triple 0x23D 0 0x7000 ∷ []) ∷ [] })) { pages = 5 ∷ 6 ∷ 7 ∷ []; schedule = i ∷ i ∷ i ∷ r ∷ [] }
     -- an instruction that is held as it writes a register that waits
-    ∷ record {
-      mxm = false;
-      code = mem memop.Ld 2 0x5000 ∷ im immop.Addu 2 5 1 ∷ [];
-      bytes = [];
-      pages = 5 ∷ [];
-      limit = 2;
-      schedule = i ∷ i ∷ r ∷ i ∷ [];
-      comes = record {
-        events = 4;
-        end = Limit;
-        retired = 2;
-        registers = (2, 1) ∷ [];
-        words = [];
-        out = [];
-        answers = 0;
-        records = fault 3 0x1002 0x1006 0x100B 0x4 (triple 0x13D 0 0x5000 ∷ no_triple ∷ no_triple ∷ []) ∷ [];
-      };
-    }
+    ∷ record (plain_run (mem memop.Ld 2 0x5000 ∷ im immop.Addu 2 5 1 ∷ []) 2
+    (record (limited 4 2 ((2, 1) ∷ []) 0) { records = fault 3 0x1002 0x1006 0x100B 0x4 (triple 0x13D 0 0x5000 ∷ no_triple ∷ no_triple ∷ []) ∷ [] })) { pages = 5 ∷ []; schedule = i ∷ i ∷ r ∷ i ∷ [] }
     -- a store to an absent page, with an instruction behind it
-    ∷ record {
-      mxm = false;
-      code = im immop.Or 4 0 7 ∷ mem memop.St 4 0x5000 ∷ im immop.Addu 5 5 1 ∷ [];
-      bytes = [];
-      pages = 5 ∷ [];
-      limit = 3;
-      schedule = i ∷ i ∷ i ∷ r ∷ [];
-      comes = record {
-        events = 4;
-        end = Limit;
-        retired = 3;
-        registers = (4, 7) ∷ (5, 1) ∷ [];
-        words = (0x5000, 7) ∷ [];
-        out = [];
-        answers = 0;
-        records = fault 4 0x100A 0x100F 0x1013 0 (triple 0x3F 7 0x5000 ∷ no_triple ∷ no_triple ∷ []) ∷ [];
-      };
-    }
+    ∷ record (plain_run (im immop.Or 4 0 7 ∷ mem memop.St 4 0x5000 ∷ im immop.Addu 5 5 1 ∷ []) 3
+    (record (limited 4 3 ((4, 7) ∷ (5, 1) ∷ []) 0) { words = (0x5000, 7) ∷ []; records = fault 4 0x100A 0x100F 0x1013 0 (triple 0x3F 7 0x5000 ∷ no_triple ∷ no_triple ∷ []) ∷ [] })) { pages = 5 ∷ []; schedule = i ∷ i ∷ i ∷ r ∷ [] }
     -- a store keeps the datum that its register had
-    ∷ record {
-      mxm = false;
-      code = im immop.Or 4 0 7 ∷ mem memop.St 4 0x5000 ∷ im immop.Addu 4 4 1 ∷ [];
-      bytes = [];
-      pages = [];
-      limit = 3;
-      schedule = i ∷ i ∷ i ∷ [];
-      comes = record {
-        events = 4;
-        end = Limit;
-        retired = 3;
-        registers = (4, 8) ∷ [];
-        words = (0x5000, 7) ∷ [];
-        out = [];
-        answers = 1;
-        records = [];
-      };
-    }
+    ∷ record (plain_run (im immop.Or 4 0 7 ∷ mem memop.St 4 0x5000 ∷ im immop.Addu 4 4 1 ∷ []) 3
+    (record (limited 4 3 ((4, 8) ∷ []) 1) { words = (0x5000, 7) ∷ [] })) { schedule = i ∷ i ∷ i ∷ [] }
     -- a fault while a bubble stands
-    ∷ record {
-      mxm = false;
-      code =
-          im immop.Or 4 0 7 ∷ mem memop.St 4 0x5000 ∷ mem memop.St 4 0x6000 ∷ branch false false 2
-          ∷ im immop.Or 4 0 9 ∷ im immop.Or 6 0 1 ∷ [];
-      bytes = [];
-      pages = 5 ∷ [];
-      limit = 5;
-      schedule = i ∷ i ∷ i ∷ i ∷ r ∷ i ∷ [];
-      comes = record {
-        events = 8;
-        end = Limit;
-        retired = 5;
-        registers = (4, 7) ∷ (6, 1) ∷ [];
-        words = (0x5000, 7) ∷ (0x6000, 7) ∷ [];
-        out = [];
-        answers = 0;
-        records = fault 5 0x100E 0x1010 0x1016 0 (triple 0x3F 7 0x5000 ∷ triple 0x3F 7 0x6000 ∷ no_triple ∷ []) ∷ [];
-      };
-    }
+    ∷ record (plain_run (im immop.Or 4 0 7 ∷ mem memop.St 4 0x5000 ∷ mem memop.St 4 0x6000 ∷ branch false false 2 ∷ im immop.Or 4 0 9 ∷ im immop.Or 6 0 1 ∷ []) 5
+    (record (limited 8 5 ((4, 7) ∷ (6, 1) ∷ []) 0) { words = (0x5000, 7) ∷ (0x6000, 7) ∷ []; records = fault 5 0x100E 0x1010 0x1016 0 (triple 0x3F 7 0x5000 ∷ triple 0x3F 7 0x6000 ∷ no_triple ∷ []) ∷ [] })) { pages = 5 ∷ []; schedule = i ∷ i ∷ i ∷ i ∷ r ∷ i ∷ [] }
     -- a fault between a branch and its delay slot
-    ∷ record {
-      mxm = false;
-      code =
-          mem memop.Ld 2 0x5000 ∷ branch true true 3 ∷ mem memop.Ld 3 0x5004 ∷ im immop.Or 5 0 5 ∷ im immop.Or 4 0 4 ∷ [];
-      bytes = [];
-      pages = 5 ∷ [];
-      limit = 4;
-      schedule = i ∷ i ∷ r ∷ i ∷ i ∷ [];
-      comes = record {
-        events = 6;
-        end = Limit;
-        retired = 4;
-        registers = (1, 0x100C) ∷ (4, 4) ∷ [];
-        words = [];
-        out = [];
-        answers = 1;
-        records = fault 3 0x1006 0x100A 0x1012 0x4 (triple 0x13D 0 0x5000 ∷ no_triple ∷ no_triple ∷ []) ∷ [];
-      };
-    }
+    ∷ record (plain_run (mem memop.Ld 2 0x5000 ∷ branch true true 3 ∷ mem memop.Ld 3 0x5004 ∷ im immop.Or 5 0 5 ∷ im immop.Or 4 0 4 ∷ []) 4
+    (record (limited 6 4 ((1, 0x100C) ∷ (4, 4) ∷ []) 1) { records = fault 3 0x1006 0x100A 0x1012 0x4 (triple 0x13D 0 0x5000 ∷ no_triple ∷ no_triple ∷ []) ∷ [] })) { pages = 5 ∷ []; schedule = i ∷ i ∷ r ∷ i ∷ i ∷ [] }
     -- a word that is no instruction waits for an empty data unit
-    ∷ record {
-      mxm = false;
-      code = im immop.Or 4 0 7 ∷ mem memop.St 4 0x5000 ∷ None ∷ [];
-      bytes = [];
-      pages = 5 ∷ [];
-      limit = 9;
-      schedule = i ∷ i ∷ i ∷ [];
-      comes = record {
-        events = 5;
-        end = Vector 5 0x1008;
-        retired = 2;
-        registers = (4, 7) ∷ [];
-        words = (0x5000, 7) ∷ [];
-        out = [];
-        answers = 0;
-        records = fault 4 0x1006 0x100A 0x100F 0 (triple 0x3F 7 0x5000 ∷ no_triple ∷ no_triple ∷ []) ∷ [];
-      };
-    }
+    ∷ record (plain_run (im immop.Or 4 0 7 ∷ mem memop.St 4 0x5000 ∷ None ∷ []) 9
+    (record (limited 5 2 ((4, 7) ∷ []) 0) { end = Vector 5 0x1008; words = (0x5000, 7) ∷ []; records = fault 4 0x1006 0x100A 0x100F 0 (triple 0x3F 7 0x5000 ∷ no_triple ∷ no_triple ∷ []) ∷ [] })) { pages = 5 ∷ []; schedule = i ∷ i ∷ i ∷ [] }
     -- a load that isn't aligned
-    ∷ record {
-      mxm = false;
-      code = mem memop.Ld 2 2 ∷ [];
-      bytes = [];
-      pages = [];
-      limit = 9;
-      schedule = [];
-      comes = record {
-        events = 2;
-        end = Vector 4 0x1000;
-        retired = 0;
-        registers = [];
-        words = [];
-        out = [];
-        answers = 0;
-        records = [];
-      };
-    }
+    ∷ plain_run (mem memop.Ld 2 2 ∷ []) 9 (record (limited 2 0 [] 0) { end = Vector 4 0x1000 })
     -- traps wait for two loads
-    ∷ record {
-      mxm = false;
-      code =
-          im immop.Or 2 0 66 ∷ im immop.Or 9 0 0x20 ∷ mem memop.Ld 3 0x5000 ∷ mem memop.Ld 4 0x5004 ∷ trap
-          ∷ im immop.Or 9 0 0x63 ∷ trap ∷ [];
-      bytes = [];
-      pages = [];
-      limit = 9;
-      schedule = replicate 6 i;
-      comes = record {
-        events = 14;
-        end = Exit 0x1018;
-        retired = 6;
-        registers = (2, 0x42) ∷ (9, 0x63) ∷ [];
-        words = [];
-        out = 0x42 ∷ [];
-        answers = 2;
-        records = [];
-      };
-    }
+    ∷ record (plain_run (im immop.Or 2 0 66 ∷ im immop.Or 9 0 0x20 ∷ mem memop.Ld 3 0x5000 ∷ mem memop.Ld 4 0x5004 ∷ trap ∷ im immop.Or 9 0 0x63 ∷ trap ∷ []) 9
+    (record (limited 14 6 ((2, 0x42) ∷ (9, 0x63) ∷ []) 2) { end = Exit 0x1018; out = 0x42 ∷ [] })) { schedule = replicate 6 i }
     -- a signed sum that doesn't fit, and a division of a negative number
-    ∷ record {
-      mxm = false;
-      code = im immop.OrU 2 0 0x7FFF ∷ im immop.Or 2 2 0xFFFF ∷ im immop.Add 3 2 1 ∷ [];
-      bytes = [];
-      pages = [];
-      limit = 9;
-      schedule = [];
-      comes = record {
-        events = 6;
-        end = Vector 9 0x1008;
-        retired = 2;
-        registers = (2, 0x7FFFFFFF) ∷ [];
-        words = [];
-        out = [];
-        answers = 0;
-        records = [];
-      };
-    }
-    ∷ record {
-      mxm = false;
-      code = im immop.Subu 2 0 1 ∷ im immop.Div 3 2 2 ∷ [];
-      bytes = [];
-      pages = [];
-      limit = 9;
-      schedule = [];
-      comes = record {
-        events = 4;
-        end = Vector 8 0x1004;
-        retired = 1;
-        registers = (2, 0xFFFFFFFF) ∷ [];
-        words = [];
-        out = [];
-        answers = 0;
-        records = [];
-      };
-    }
+    ∷ plain_run (im immop.OrU 2 0 0x7FFF ∷ im immop.Or 2 2 0xFFFF ∷ im immop.Add 3 2 1 ∷ []) 9
+    (record (limited 6 2 ((2, 0x7FFFFFFF) ∷ []) 0) { end = Vector 9 0x1008 })
+    ∷ plain_run (im immop.Subu 2 0 1 ∷ im immop.Div 3 2 2 ∷ []) 9
+    (record (limited 4 1 ((2, 0xFFFFFFFF) ∷ []) 0) { end = Vector 8 0x1004 })
     -- a double word into r31 and r0
-    ∷ record {
-      mxm = false;
-      code = mem memop.LdD 31 0x2000 ∷ [];
-      bytes = 0x11 ∷ 0x22 ∷ 0x33 ∷ 0x44 ∷ 0x55 ∷ 0x66 ∷ 0x77 ∷ 0x88 ∷ [];
-      pages = 2 ∷ [];
-      limit = 1;
-      schedule = i ∷ r ∷ [];
-      comes = record {
-        events = 2;
-        end = Limit;
-        retired = 1;
-        registers = (31, 0x11223344) ∷ [];
-        words = [];
-        out = [];
-        answers = 0;
-        records = fault 2 0x1002 0x1007 0x100B 0x80000000 (triple 0x2FBD 0 0x2000 ∷ triple 0x3D 0 0x2004 ∷ no_triple ∷ []) ∷ [];
-      };
-    }
+    ∷ record (plain_run (mem memop.LdD 31 0x2000 ∷ []) 1
+    (record (limited 2 1 ((31, 0x11223344) ∷ []) 0) { records = fault 2 0x1002 0x1007 0x100B 0x80000000 (triple 0x2FBD 0 0x2000 ∷ triple 0x3D 0 0x2004 ∷ no_triple ∷ []) ∷ [] })) { bytes = 0x11 ∷ 0x22 ∷ 0x33 ∷ 0x44 ∷ 0x55 ∷ 0x66 ∷ 0x77 ∷ 0x88 ∷ []; pages = 2 ∷ []; schedule = i ∷ r ∷ [] }
     -- an exchange on an absent page, and a privileged instruction that is held as busy
-    ∷ record {
-      mxm = false;
-      code = im immop.Or 2 0 5 ∷ mem memop.Xmem 2 0x5000 ∷ Some (instr.Ldcr (reg_of 2) 1 false) ∷ [];
-      bytes = [];
-      pages = 5 ∷ [];
-      limit = 9;
-      schedule = i ∷ i ∷ i ∷ r ∷ [];
-      comes = record {
-        events = 6;
-        end = Vector 6 0x1008;
-        retired = 2;
-        registers = [];
-        words = (0x5000, 5) ∷ [];
-        out = [];
-        answers = 0;
-        records = fault 4 0x1006 0x100A 0x100F 0x4 (triple 0x113D 0 0x5000 ∷ triple 0x103F 5 0x5000 ∷ no_triple ∷ []) ∷ [];
-      };
-    }
+    ∷ record (plain_run (im immop.Or 2 0 5 ∷ mem memop.Xmem 2 0x5000 ∷ Some (instr.Ldcr (reg_of 2) 1 false) ∷ []) 9
+    (record (limited 6 2 [] 0) { end = Vector 6 0x1008; words = (0x5000, 5) ∷ []; records = fault 4 0x1006 0x100A 0x100F 0x4 (triple 0x113D 0 0x5000 ∷ triple 0x103F 5 0x5000 ∷ no_triple ∷ []) ∷ [] })) { pages = 5 ∷ []; schedule = i ∷ i ∷ i ∷ r ∷ [] }
     -- a change of flow in a taken delay slot, and in one whose target is the word behind it
-    ∷ record {
-      mxm = false;
-      code = branch false true 3 ∷ branch false false 2 ∷ im immop.Or 2 0 1 ∷ im immop.Or 3 0 1 ∷ [];
-      bytes = [];
-      pages = [];
-      limit = 9;
-      schedule = [];
-      comes = record {
-        events = 4;
-        end = Vector 5 0x1004;
-        retired = 1;
-        registers = [];
-        words = [];
-        out = [];
-        answers = 0;
-        records = [];
-      };
-    }
-    ∷ record {
-      mxm = false;
-      code = branch false true 2 ∷ branch false false 2 ∷ im immop.Or 2 0 1 ∷ im immop.Or 3 0 1 ∷ [];
-      bytes = [];
-      pages = [];
-      limit = 3;
-      schedule = [];
-      comes = record {
-        events = 8;
-        end = Limit;
-        retired = 3;
-        registers = (3, 1) ∷ [];
-        words = [];
-        out = [];
-        answers = 0;
-        records = [];
-      };
-    }
+    ∷ plain_run (branch false true 3 ∷ branch false false 2 ∷ im immop.Or 2 0 1 ∷ im immop.Or 3 0 1 ∷ []) 9
+    (record (limited 4 1 [] 0) { end = Vector 5 0x1004 })
+    ∷ plain_run (branch false true 2 ∷ branch false false 2 ∷ im immop.Or 2 0 1 ∷ im immop.Or 3 0 1 ∷ []) 3
+    (limited 8 3 ((3, 1) ∷ []) 0)
     -- a fourth load, for which there is no room
-    ∷ record {
-      mxm = false;
-      code = mem memop.Ld 2 0x5000 ∷ mem memop.Ld 3 0x5004 ∷ mem memop.Ld 4 0x5008 ∷ mem memop.Ld 5 0x6000 ∷ [];
-      bytes = [];
-      pages = 6 ∷ [];
-      limit = 4;
-      schedule = replicate 50 i;
-      comes = record {
-        events = 57;
-        end = Limit;
-        retired = 4;
-        registers = [];
-        words = [];
-        out = [];
-        answers = 3;
-        records = fault 57 0x100E 0x1013 0x1017 0x20 (triple 0x2BD 0 0x6000 ∷ no_triple ∷ no_triple ∷ []) ∷ [];
-      };
-    }
+    ∷ record (plain_run (mem memop.Ld 2 0x5000 ∷ mem memop.Ld 3 0x5004 ∷ mem memop.Ld 4 0x5008 ∷ mem memop.Ld 5 0x6000 ∷ []) 4
+    (record (limited 57 4 [] 3) { records = fault 57 0x100E 0x1013 0x1017 0x20 (triple 0x2BD 0 0x6000 ∷ no_triple ∷ no_triple ∷ []) ∷ [] })) { pages = 6 ∷ []; schedule = replicate 50 i }
     ∷ []
 
 as_by_hand : map came worked ≡ map (λ w. w.comes) worked

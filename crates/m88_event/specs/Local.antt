@@ -12,7 +12,7 @@ use Rattle.m88_isa.specs.declared.planned.Access.{Access}
 use Rattle.m88_event.specs.Choice.{Choice, choice_of, end_by, evicts, faults, finishes, holds, idles, issues, passes, replies, said, serves, touches_page}
 use Rattle.m88_event.specs.Shadow.{retired_pointer}
 use Rattle.m88_event.specs.Situation.{Situation, record_of}
-use Rattle.m88_event.specs.Timeline.{History, Moment, absent_at, end_along, history, pending_along, xip_along}
+use Rattle.m88_event.specs.Timeline.{History, Moment, Run, absent_at, end_along, history, pending_along, xip_along}
 use Rattle.m88_event.specs.declared.happened.End.{End}
 use Rattle.m88_event.specs.declared.happened.Happened.{Happened}
 use Rattle.m88_event.specs.declared.letter.Letter.{Letter}
@@ -119,15 +119,15 @@ register_shown p m = register_seen (pending_at p m.retired m.done) (state p m.re
 
 -- what a moment of a history looks like: `words` is memory by words after so many instructions, of whose transactions
 -- the first so many are done
-abbrev pub local_along : History → (ℕ → ℕ → ℕ → ℕ) → (ℕ → Bool) → Moment → Local
-local_along h words named m = record {
+abbrev pub local_along : History → (ℕ → ℕ → ℕ → ℕ) → Run → Moment → Local
+local_along h words r m = record {
   completed = completed_state (h.state m.retired);
   bus = words m.retired m.done;
   pending = pending_along h m;
   xip = xip_along h m.retired;
   bubble = m.bubble;
   ended = end_along h m;
-  absent = absent_at named m;
+  absent = absent_at r m;
   retired = m.retired;
   done = m.done;
   events = m.events;
@@ -136,5 +136,5 @@ local_along h words named m = record {
 }
 
 -- what a moment of the sequential machine's history looks like
-unfoldable pub local_at : Program → (ℕ → Bool) → Moment → Local
-local_at p = local_along (history p) (bus_at p)
+unfoldable pub local_at : Run → Moment → Local
+local_at r = local_along (history r.program) (bus_at r.program) r

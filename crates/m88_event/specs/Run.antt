@@ -6,17 +6,16 @@ use Rattle.m88_isa.specs.Bus.{changed_words, in_words}
 use Rattle.m88_isa.specs.Machine.{Program, opening}
 use Rattle.m88_event.specs.Letters.{letter_at}
 use Rattle.m88_event.specs.Local.{Local, is_over_by}
-use Rattle.m88_event.specs.Timeline.{History, Moment, after_letter, end_along, history, is_drained, is_over, opening_moment}
+use Rattle.m88_event.specs.Timeline.{History, Moment, Run, after_letter, end_along, history, is_drained, is_over, opening_moment}
 use Rattle.m88_event.specs.declared.happened.End.TheVariants.{Limit}
 use Rattle.m88_event.specs.declared.letter.Letter.{Letter}
 use Rattle.m88_event.specs.declared.letter.Letter.TheVariants.{Answer}
 use Rattle.m88_event.specs.declared.outcome.Outcome.{Outcome}
 
 -- the moment after as many of some letters, from a moment on
-unfoldable pub moment_along : Program → (ℕ → Bool) → ℕ → (ℕ → Letter) → Moment → ℕ → Moment
-moment_along p named limit letters m zero = m
-moment_along p named limit letters m (suc k) =
-    after_letter p named limit (letters k) (moment_along p named limit letters m k)
+unfoldable pub moment_along : Run → (ℕ → Letter) → Moment → ℕ → Moment
+moment_along r letters m zero = m
+moment_along r letters m (suc k) = after_letter r (letters k) (moment_along r letters m k)
 
 -- a condition doesn't hold after fewer events than these
 abbrev pub NotBefore : (ℕ → Bool) → ℕ → Type 0
@@ -32,21 +31,21 @@ abbrev pub letters_from : List Letter → ℕ → ℕ → Letter
 letters_from schedule taken k = letter_at schedule (taken + k)
 
 -- the moment of a run after as many events
-abbrev pub moment_after : Program → (ℕ → Bool) → ℕ → List Letter → ℕ → Moment
-moment_after p named limit schedule = moment_along p named limit (letter_at schedule) opening_moment
+abbrev pub moment_after : Run → ℕ → Moment
+moment_after r = moment_along r (letter_at r.schedule) opening_moment
 
 -- before each of so many events the run wasn't over
-abbrev pub IsRunning : Program → (ℕ → Bool) → ℕ → List Letter → ℕ → Type 0
-IsRunning p named limit schedule = NotBefore (λ k. is_over p limit (moment_after p named limit schedule k))
+abbrev pub IsRunning : Run → ℕ → Type 0
+IsRunning r = NotBefore (λ k. is_over r (moment_after r k))
 
 -- the run has this many events: it is over then, and not before
-abbrev pub IsRun : Program → (ℕ → Bool) → ℕ → List Letter → ℕ → Type 0
-IsRun p named limit schedule = IsFirst (λ k. is_over p limit (moment_after p named limit schedule k))
+abbrev pub HasEvents : Run → ℕ → Type 0
+HasEvents r = IsFirst (λ k. is_over r (moment_after r k))
 
 -- a run of anything that looks like a board has this many events, by what is seen after each count of them: it is over
 -- then, and not before
-abbrev pub IsRunBy : ℕ → (ℕ → Local) → ℕ → Type 0
-IsRunBy limit seen = IsFirst (λ k. is_over_by limit (seen k))
+abbrev pub HasEventsBy : ℕ → (ℕ → Local) → ℕ → Type 0
+HasEventsBy limit seen = IsFirst (λ k. is_over_by limit (seen k))
 
 -- what a run comes to that is over at a moment: the end of the history where the program ended, and else the limit;
 -- registers, carry, output and memory of the history after as many instructions; the counts and records of the moment
@@ -82,19 +81,19 @@ outcome_by before l = record {
 }
 
 -- what a run comes to
-pub record IsOutcome (p : Program) (named : ℕ → Bool) (limit : ℕ) (schedule : List Letter) (o : Outcome) : Type 0 where
+pub record IsOutcome (r : Run) (o : Outcome) : Type 0 where
   pub events : ℕ
-  pub run : IsRun p named limit schedule events
-  pub value : o ≡ outcome_at p (moment_after p named limit schedule events)
+  pub run : HasEvents r events
+  pub value : o ≡ outcome_at r.program (moment_after r events)
 
 -- the moment after as many letters `r`
-abbrev pub answered_after : Program → (ℕ → Bool) → ℕ → Moment → ℕ → Moment
-answered_after p named limit = moment_along p named limit (λ k. Answer)
+abbrev pub answered_after : Run → Moment → ℕ → Moment
+answered_after r = moment_along r (λ k. Answer)
 
 -- before each of so many letters `r` something was pending
-abbrev pub IsDraining : Program → (ℕ → Bool) → ℕ → Moment → ℕ → Type 0
-IsDraining p named limit m = NotBefore (λ k. is_drained p (answered_after p named limit m k))
+abbrev pub IsDraining : Run → Moment → ℕ → Type 0
+IsDraining r m = NotBefore (λ k. is_drained r.program (answered_after r m k))
 
 -- so many letters `r` drain a moment: nothing is pending then, and not before
-abbrev pub IsDrain : Program → (ℕ → Bool) → ℕ → Moment → ℕ → Type 0
-IsDrain p named limit m = IsFirst (λ k. is_drained p (answered_after p named limit m k))
+abbrev pub IsDrain : Run → Moment → ℕ → Type 0
+IsDrain r m = IsFirst (λ k. is_drained r.program (answered_after r m k))

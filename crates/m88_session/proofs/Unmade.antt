@@ -1,6 +1,6 @@
 -- Where nothing was made: before the first event nothing was seen, and where memory ran out there is a front alone.
 use Rattle.std.proofs.Common.{◌≡◌, ℕ, [], Result, Ok, Err, refl}
-use Rattle.std.specs.Prelude.{OnOk}
+use Rattle.std.specs.Prelude.{OnErr, OnOk}
 use Rattle.m88_base.specs.Image.{IsImage, ProgramImage}
 use Rattle.m88_isa.specs.Machine.{Program}
 use Rattle.m88_event.specs.Timeline.{Moment}
@@ -16,3 +16,8 @@ pub goes_none : {T E : Type 0} {image : ProgramImage} {s : Settings} {IsMade : T
     (r : Result T E) → OnOk r ⊥ → IsImage image → OfImage image s IsFront → GoesAlong image s IsMade IsFront r
 goes_none (Ok x) none is front = absurd none
 goes_none (Err e) none is front = record { is_image = is; made = tt; front = front }
+
+-- what holds at any answer holds there
+pub on_err : {T E P : Type 0} (r : Result T E) → P → OnErr r P
+on_err (Ok x) p = tt
+on_err (Err e) p = p
