@@ -39,14 +39,7 @@ fault_did record_now fault old new kept same does = record {
 -- the count of events is no record
 uncounted : (brief : Brief) (b : BoardView) → happened_of brief (event_counted b) ≡ happened_of brief b
 uncounted brief.Issued b = refl
-uncounted brief.Bubble b = refl
-uncounted (brief.Stalled why) b = refl
-uncounted brief.Answered b = refl
-uncounted brief.Faulted b = refl
-uncounted brief.Evicted b = refl
-uncounted brief.Idle b = refl
-uncounted (brief.Served byte) b = refl
-uncounted brief.Ended b = refl
+uncounted _ b = refl
 
 pub told_counted : (brief : Brief) (middle new : BoardView) → new ≡ event_counted middle →
     happened_of brief middle ≡ happened_of brief new

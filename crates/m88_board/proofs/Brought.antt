@@ -103,8 +103,7 @@ stopping_issues_none stop (a ∷ pending) change issued = absurd cc
 pub trap_issues_none : (s : Service) (vector pc : ℕ) (change : Change) →
     turn_choice (turn_of_service s vector pc) ≡ issues change → ⊥
 trap_issues_none (service.Out byte) vector pc change issued = absurd cc
-trap_issues_none service.End vector pc change issued = absurd cc
-trap_issues_none service.Unserved vector pc change issued = absurd cc
+trap_issues_none _ vector pc change issued = absurd cc
 
 -- of one that is issued its changes are told
 pub tells_planned : (i : Instr) (effect : Effect) (b : BoardView) (before told : Told) → IsPlanned i effect b →

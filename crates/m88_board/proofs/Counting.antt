@@ -10,14 +10,7 @@ use Rattle.m88_board.specs.Inside.Events.{Does}
 -- what is seen of the count stays
 moved_events : (choice : Choice) (fault : Record) (l : Local) → (move_by choice fault l).events ≡ l.events
 moved_events idles fault l = refl
-moved_events passes fault l = refl
-moved_events (holds why) fault l = refl
-moved_events (issues change) fault l = refl
-moved_events (serves byte) fault l = refl
-moved_events (finishes stop) fault l = refl
-moved_events replies fault l = refl
-moved_events faults fault l = refl
-moved_events evicts fault l = refl
+moved_events _ fault l = refl
 
 -- and so does the count
 pub does_events : (choice : Choice) (fault : Record) (old new : BoardView) → Does choice fault old new →

@@ -7,7 +7,7 @@ use Rattle.m88_ctrl.specs.ControlRegisters.{carry_of}
 use Rattle.m88_event.proofs.Laws.{drained_bus, issued_of, outcome_seen}
 use Rattle.m88_event.specs.Local.{Local, local_at}
 use Rattle.m88_event.specs.Run.{outcome_at, outcome_by}
-use Rattle.m88_event.specs.Timeline.{Moment, end_of_turn, is_drained, is_idle, is_over}
+use Rattle.m88_event.specs.Timeline.{Moment, Run, end_of_turn, is_drained, is_idle, is_over}
 use Rattle.m88_event.specs.declared.happened.End.{End}
 use Rattle.m88_event.specs.declared.happened.End.TheVariants.{Limit}
 use Rattle.m88_event.specs.declared.outcome.Outcome.{Outcome}
@@ -33,36 +33,10 @@ not_pending : (t : Bool) → not t ≡ true → t ≡ false
 not_pending true h = sym h
 not_pending false h = refl
 
--- where a run is over, nothing is pending
-all_done : (p : Program) (limit : ℕ) (m : Moment) → is_over p limit m ≡ true → is_drained p m ≡ true
-all_done p limit m over = first_of (is_drained p m) (is_idle limit m) over
-
-pub none_left : (p : Program) (named : ℕ → Bool) (m : Moment) (b : BoardView) → IsAt p named m b → is_over p b.limit m ≡ true →
-    b.pending ≡ []
-none_left p named m b at over =
-    empty_of b.pending
-    (not_pending (is_pending b.pending) (drained_by p named m b at ∙ all_done p b.limit m over))
-
 -- the registers are those of the history
 pub none_wait : (b : BoardView) → IsKept b → b.pending ≡ [] → waiting_of b.file ≡ none_waits
 unfolding waits_for
 none_wait b kept none = kept.parts.waiting ∙ ap waits_for none
-
-pub registers_are : (p : Program) (named : ℕ → Bool) (m : Moment) (b : BoardView) → IsAt p named m b → b.pending ≡ [] →
-    b.file.numbers ≡ (state p m.retired).regs
-unfolding local_of completed_of local_at completed_state after_accesses
-registers_are p named m b at none =
-    sym (ap (λ (xs : List Access). (after_accesses xs (cells_in b.file b.memory)).regs) none)
-    ∙ ap (λ (l : Local). l.completed.regs) at.seen
-
--- and so is memory
-pub memory_is : (p : Program) (named : ℕ → Bool) (m : Moment) (b : BoardView) → IsKept b → IsAt p named m b →
-    is_drained p m ≡ true →
-    bus_of b.memory ≡ in_words (state p m.retired).memory
-unfolding local_of local_at
-memory_is p named m b kept at drained =
-    ap (λ (l : Local). l.bus) at.seen
-    ∙ drained_bus p m.retired m.done (program_of_image b.memory.image p kept.image at.image) (eqb-true m.done (transaction_count p m.retired) drained)
 
 -- what is seen of a board with nothing pending has its registers and its words
 pub registers_seen : (b : BoardView) → b.pending ≡ [] → b.file.numbers ≡ (completed_of b).regs
@@ -97,36 +71,47 @@ came_to b regs carry o kept none values carries comes =
       records = b.records;
     })
 
--- and that of a moment
-pub came_to_at : (p : Program) (named : ℕ → Bool) (m : Moment) (b : BoardView) (o : Outcome) →
-    IsAt p named m b →
-    is_over p b.limit m ≡ true →
-    o ≡ outcome_by (image_bus b.memory.image) (local_of b) →
-    o ≡ outcome_at p m
-unfolding opening
-came_to_at p named m b o at over is =
-    is
-    ∙ ap₂ outcome_by (same_bytes p b.memory.image at.image) at.seen
-    ∙ outcome_seen p named m
+-- at a moment
+module _ (r : Run) (m : Moment) (b : BoardView) (at : IsAt r m b) where
+  -- where a run is over, nothing is pending
+  pub none_left : is_over r m ≡ true → b.pending ≡ []
+  none_left over =
+      empty_of b.pending (not_pending (is_pending b.pending)
+      (drained_by r m b at ∙ first_of (is_drained r.program m) (is_idle r m) over))
 
--- with nothing pending it shows the state of the history
-pub settled : (p : Program) (named : ℕ → Bool) (m : Moment) (b : BoardView) →
-    IsKept b →
-    IsAt p named m b →
-    is_drained p m ≡ true →
-    b.pending ≡ [] →
-    IsSettled p m b
-unfolding local_of completed_of local_at completed_state
-settled p named m b kept at drained none = record {
-  retired = ap (λ (l : Local). l.retired) at.seen;
-  bubble = ap (λ (l : Local). l.bubble) at.seen;
-  ended = ap (λ (l : Local). l.ended) at.seen;
-  waiting = none_wait b kept none;
-  registers = registers_are p named m b at none;
-  carry = ap (λ (l : Local). l.completed.carry) at.seen;
-  out = ap (λ (l : Local). l.completed.out) at.seen;
-  words = memory_is p named m b kept at drained;
-}
+  pub registers_are : b.pending ≡ [] → b.file.numbers ≡ (state r.program m.retired).regs
+  unfolding local_of completed_of local_at completed_state after_accesses
+  registers_are none =
+      sym (ap (λ (xs : List Access). (after_accesses xs (cells_in b.file b.memory)).regs) none)
+      ∙ ap (λ (l : Local). l.completed.regs) at.seen
+
+  -- and so is memory
+  pub memory_is : IsKept b → is_drained r.program m ≡ true → bus_of b.memory ≡ in_words (state r.program m.retired).memory
+  unfolding local_of local_at
+  memory_is kept drained =
+      ap (λ (l : Local). l.bus) at.seen
+      ∙ drained_bus r.program m.retired m.done (program_of_image b.memory.image r.program kept.image at.image)
+      (eqb-true m.done (transaction_count r.program m.retired) drained)
+
+  -- the outcome
+  pub came_to_at : (o : Outcome) → o ≡ outcome_by (image_bus b.memory.image) (local_of b) → o ≡ outcome_at r.program m
+  unfolding opening
+  came_to_at o is =
+      is ∙ ap₂ outcome_by (same_bytes r.program b.memory.image at.image) at.seen ∙ outcome_seen r m
+
+  -- with nothing pending it shows the state of the history
+  pub settled : IsKept b → is_drained r.program m ≡ true → b.pending ≡ [] → IsSettled r.program m b
+  unfolding local_of completed_of local_at completed_state
+  settled kept drained none = record {
+    retired = ap (λ (l : Local). l.retired) at.seen;
+    bubble = ap (λ (l : Local). l.bubble) at.seen;
+    ended = ap (λ (l : Local). l.ended) at.seen;
+    waiting = none_wait b kept none;
+    registers = registers_are none;
+    carry = ap (λ (l : Local). l.completed.carry) at.seen;
+    out = ap (λ (l : Local). l.completed.out) at.seen;
+    words = memory_is kept drained;
+  }
 
 -- and so at the moment before it was drained
 pub settled_before : (p : Program) (before after : Moment) (b : BoardView) → issued_of after ≡ issued_of before →
@@ -156,18 +141,12 @@ limited_by (Some e) retired limit end early ends idle is = (
   λ h. absurd (let less = early refl in omega (arith, less, h)),
 )
 
-over_idle : (p : Program) (named : ℕ → Bool) (m : Moment) (b : BoardView) → IsAt p named m b → is_over p b.limit m ≡ true →
-    is_idle_board b ≡ true
+over_idle : (r : Run) (m : Moment) (b : BoardView) → IsAt r m b → is_over r m ≡ true → is_idle_board b ≡ true
 unfolding local_of
-over_idle p named m b at over =
-    second_of (not (is_pending b.pending)) (is_idle_board b) (over_at p named m b at ∙ over)
+over_idle r m b at over = second_of (not (is_pending b.pending)) (is_idle_board b) (over_at r m b at ∙ over)
 
-pub limited : (p : Program) (named : ℕ → Bool) (m : Moment) (b : BoardView) (regs : List ℕ) (carry : Bool) (o : Outcome) →
-    IsKept b →
-    IsAt p named m b →
-    is_over p b.limit m ≡ true →
-    o ≡ outcome_in b.book regs carry b.memory →
-    (o.end ≡ Limit) ↔ (o.retired ≡ b.limit)
-limited p named m b regs carry o kept at over comes =
+pub limited : (r : Run) (m : Moment) (b : BoardView) (regs : List ℕ) (carry : Bool) (o : Outcome) → IsKept b → IsAt r m b →
+    is_over r m ≡ true → o ≡ outcome_in b.book regs carry b.memory → (o.end ≡ Limit) ↔ (o.retired ≡ b.limit)
+limited r m b regs carry o kept at over comes =
     subst (λ (x : Outcome). (x.end ≡ Limit) ↔ (x.retired ≡ b.limit)) (sym comes)
-    (limited_by b.ended b.retired b.limit (unwrap_or b.ended Limit) kept.early kept.ends (over_idle p named m b at over) refl)
+    (limited_by b.ended b.retired b.limit (unwrap_or b.ended Limit) kept.early kept.ends (over_idle r m b at over) refl)

@@ -51,9 +51,9 @@ happens letter old middle b new is kept brings =
     let of : IsProgramOf old.memory.image p = program_in_holds false old.memory.image image in
     record {
       moved = moved;
-      timeline = λ p named m at.
-          along p named m letter old h new (program_of_image old.memory.image p image at.image) at (moved p at.image);
-      said = λ p named m at. says_so p named m letter old h new at (moved p at.image);
+      timeline = λ r m at.
+          along r m letter old h new (program_of_image old.memory.image r.program image at.image) at (moved r.program at.image);
+      said = λ r m at. says_so r m letter old h new at (moved r.program at.image);
       precise = precise_on p letter old h new (moved p of);
       ended = ended_so p letter old h new (moved p of);
       counted = ap (λ (x : BoardView). x.events) is

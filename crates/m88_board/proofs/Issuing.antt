@@ -107,14 +107,12 @@ shown_by outline inside b shown carry next same numbers carries behind =
 -- an instruction with a plan that raises means that
 pub raise_is : (m : Meaning) (vector : ℕ) → Raise vector ≡ plan_for m → m ≡ raises vector
 raise_is (raises v) vector h = cc
-raise_is (traps v) vector h = absurd cc
-raise_is (goes change) vector h = absurd cc
+raise_is _ vector h = absurd cc
 
 -- one with a plan that traps means that
 pub trap_is : (m : Meaning) (vector : ℕ) → Trap vector ≡ plan_for m → m ≡ traps vector
-trap_is (raises v) vector h = absurd cc
 trap_is (traps v) vector h = cc
-trap_is (goes change) vector h = absurd cc
+trap_is _ vector h = absurd cc
 
 -- a meaning goes on with an effect
 pub record GoesOn (m : Meaning) (effect : Effect) : Type 0 where
@@ -124,9 +122,8 @@ pub record GoesOn (m : Meaning) (effect : Effect) : Type 0 where
 
 -- and one with a plan that goes on does
 pub go_is : (m : Meaning) (effect : Effect) → Go effect ≡ plan_for m → GoesOn m effect
-go_is (raises v) effect h = absurd cc
-go_is (traps v) effect h = absurd cc
 go_is (goes change) effect h = record { change = change; means = refl; same = cc }
+go_is _ effect h = absurd cc
 
 -- what ends the program waits for an empty data unit
 stopped : (i : Instr) (stop : Stop) (pending : List Access) → busy_register (Some i) pending ≡ None →

@@ -11,14 +11,7 @@ use Rattle.m88_board.specs.Shown.{Leaves}
 same_left : (old : BoardView) (h : Happened) (new : BoardView) → Leaves h old new →
     Leaves h old (event_counted new)
 same_left old Issued new left = left
-same_left old Bubble new left = left
-same_left old (Stalled why) new left = left
-same_left old Answered new left = left
-same_left old (Faulted fault) new left = left
-same_left old Idle new left = left
-same_left old (Served byte) new left = left
-same_left old (Ended end) new left = left
-same_left old Evicted new left = left
+same_left old _ new left = left
 
 pub leaves_counted : (old : BoardView) (h : Happened) (middle new : BoardView) →
     new ≡ event_counted middle →

@@ -1,13 +1,12 @@
 -- An event is the move of what is seen, and so goes along the timeline.
 use Rattle.std.specs.Prelude.{ℕ, Bool, true, false, if◌then◌else◌, List, [], ◌∷◌, ◌≡◌, ◌≤◌, ◌-◌, length}
-use Rattle.std.proofs.Common.{arith, refl, sym, ap, ◌∙◌, subst}
+use Rattle.std.proofs.Common.{arith, refl, sym, ap, ap₂, ◌∙◌, subst}
 use Rattle.std.proofs.lemmas.List.{length-drop}
 use Rattle.m88_base.specs.Pages.{page_number}
 use Rattle.m88_event.proofs.Laws.{keeps_past, moves_as_seen, precise_by, same_said, stays_within}
 use Rattle.m88_event.specs.Choice.{Choice, ServesOrEnds, answer_choice, evicts, faults, finishes, holds, idles, issues, passes, replies, said, serves}
 use Rattle.m88_event.specs.Local.{Local, choice_by, move, move_by, record_by, said_by, situation_of, with_move_counted}
-use Rattle.m88_event.specs.Past.{HasPast}
-use Rattle.m88_event.specs.Timeline.{Moment, after_letter, said_at}
+use Rattle.m88_event.specs.Timeline.{Moment, Run, after_letter, said_at}
 use Rattle.m88_event.specs.declared.happened.Happened.{Happened}
 use Rattle.m88_event.specs.declared.letter.Letter.{Letter}
 use Rattle.m88_event.specs.declared.letter.Letter.TheVariants.{Answer, Evict}
@@ -39,17 +38,15 @@ counted p letter old middle h did = record {
 }
 
 -- and a board that stands at a moment stands at the next
-pub along : (p : Program) (named : ℕ → Bool) (m : Moment) (letter : Letter) (old : BoardView) (h : Happened) (new : BoardView) →
-    IsProgram p →
-    IsAt p named m old →
-    IsMove p letter old h new →
-    IsAt p named (after_letter p named old.limit letter m) new
-along p named m letter old h new is at moved = record {
-  image = subst (λ image. IsProgramOf image p) (sym moved.same.image) at.image;
-  within = stays_within p named old.limit letter m at.within;
-  past = subst (λ limit. HasPast p limit (after_letter p named old.limit letter m)) (sym moved.same.limit)
-      (keeps_past p named old.limit letter m at.within at.past);
-  seen = moved.moved ∙ ap (move p old.limit letter) at.seen ∙ moves_as_seen p named old.limit letter m is at.within;
+pub along : (r : Run) (m : Moment) (letter : Letter) (old : BoardView) (h : Happened) (new : BoardView) →
+    IsProgram r.program → IsAt r m old → IsMove r.program letter old h new → IsAt r (after_letter r letter m) new
+along r m letter old h new is at moved = record {
+  image = subst (λ image. IsProgramOf image r.program) (sym moved.same.image) at.image;
+  limit = moved.same.limit ∙ at.limit;
+  within = stays_within r letter m at.within;
+  past = keeps_past r letter m at.within at.past;
+  seen = moved.moved ∙ ap₂ (λ (n : ℕ) (l : Local). move r.program n letter l) at.limit at.seen
+      ∙ moves_as_seen r letter m is at.within;
 }
 
 -- the same of a board whose events are counted behind it
@@ -61,12 +58,10 @@ moved_by p letter old middle h new is did =
     subst (λ (b : BoardView). IsMove p letter old h b) (sym is) (counted p letter old middle h did)
 
 -- and it says what the timeline says
-pub says_so : (p : Program) (named : ℕ → Bool) (m : Moment) (letter : Letter) (old : BoardView) (h : Happened) (new : BoardView) →
-    IsAt p named m old →
-    IsMove p letter old h new →
-    h ≡ said_at p named old.limit letter m
-says_so p named m letter old h new at moved =
-    moved.says ∙ ap (said_by p old.limit letter) at.seen ∙ same_said p named old.limit letter m
+pub says_so : (r : Run) (m : Moment) (letter : Letter) (old : BoardView) (h : Happened) (new : BoardView) →
+    IsAt r m old → IsMove r.program letter old h new → h ≡ said_at r letter m
+says_so r m letter old h new at moved =
+    moved.says ∙ ap₂ (λ (n : ℕ) (l : Local). said_by r.program n letter l) at.limit at.seen ∙ same_said r letter m
 
 -- a trap is served and the program ends only where nothing is pending
 pub empty_of : (xs : List Access) → is_pending xs ≡ false → xs ≡ []
@@ -126,14 +121,7 @@ fewer_answered (a ∷ pending) absent fault old new is did = fewer_by (absent (p
 ended_by : (choice : Choice) (fault : Record) (l : Local) →
     (move_by choice fault l).ended ≡ end_after (said choice fault) l.ended
 ended_by idles fault l = refl
-ended_by passes fault l = refl
-ended_by (holds why) fault l = refl
-ended_by (issues change) fault l = refl
-ended_by (serves byte) fault l = refl
-ended_by (finishes stop) fault l = refl
-ended_by replies fault l = refl
-ended_by faults fault l = refl
-ended_by evicts fault l = refl
+ended_by _ fault l = refl
 
 pub ended_so : (p : Program) (letter : Letter) (old : BoardView) (h : Happened) (new : BoardView) →
     IsMove p letter old h new →

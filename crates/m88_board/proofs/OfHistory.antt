@@ -21,8 +21,7 @@ mxm_touched (t ∷ ts) s = mxm_touched ts (after_touch t s)
 
 mxm_after : (t : Turn) (s : State) → (state_after (stepped t s) s).mxm ≡ s.mxm
 mxm_after (changes change) s = mxm_touched change.touches _
-mxm_after (outputs byte) s = refl
-mxm_after (stops stop) s = refl
+mxm_after _ s = refl
 
 -- MXM is the program's
 pub mode_stays : (p : Program) (n : ℕ) → (state p n).mxm ≡ p.mxm
@@ -51,8 +50,7 @@ zero_touched (t ∷ ts) s = zero_touched ts (after_touch t s) ∙ zero_touch t s
 
 zero_after : (t : Turn) (s : State) → slice_index (state_after (stepped t s) s).regs 0 ≡ slice_index s.regs 0
 zero_after (changes change) s = zero_touched change.touches _ ∙ zero_at_once change.register s.regs
-zero_after (outputs byte) s = refl
-zero_after (stops stop) s = refl
+zero_after _ s = refl
 
 -- r0 is 0
 pub zero_is : (p : Program) (n : ℕ) → slice_index (state p n).regs 0 ≡ 0

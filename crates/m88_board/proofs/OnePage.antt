@@ -25,16 +25,9 @@ touches_page : (op : MemOp) (d : Reg) (value second place : ℕ) → place < 2 ^
     StoreOnOnePage (recorded (touches_of op d value second place))
 touches_page memop.XmemBu d value second place low even = λ more write. absurd cc
 touches_page memop.Xmem d value second place low even = λ more write. absurd cc
-touches_page memop.LdHu d value second place low even = λ more write. absurd (omega (arith, more))
-touches_page memop.LdBu d value second place low even = λ more write. absurd (omega (arith, more))
 touches_page memop.LdD d value second place low even = λ more write. absurd cc
-touches_page memop.Ld d value second place low even = λ more write. absurd (omega (arith, more))
-touches_page memop.LdH d value second place low even = λ more write. absurd (omega (arith, more))
-touches_page memop.LdB d value second place low even = λ more write. absurd (omega (arith, more))
 touches_page memop.StD d value second place low even = λ more write. (refl, omega (arith, low, even))
-touches_page memop.St d value second place low even = λ more write. absurd (omega (arith, more))
-touches_page memop.StH d value second place low even = λ more write. absurd (omega (arith, more))
-touches_page memop.StB d value second place low even = λ more write. absurd (omega (arith, more))
+touches_page _ d value second place low even = λ more write. absurd (omega (arith, more))
 
 -- an instruction without accesses
 none_page : StoreOnOnePage (recorded [])
@@ -80,14 +73,8 @@ effect_page (instr.Imm op d s1 imm) x = computes_page d (immediate op x.carry x.
 effect_page (instr.Regs op d s1 s2) x = computes_page d (registers op x.carry x.s1 x.s2) x
 effect_page (instr.MemImm op d s1 imm) x = accesses_page op d (address x.s1 imm 1) x (omega arith)
 effect_page (instr.MemReg op d s1 s2 scaled usr) x = indexed_page op d scaled usr x
-effect_page (instr.Lda size d s1 s2) x = none_page
-effect_page (instr.BitLit op d s1 width offset) x = none_page
-effect_page (instr.BitReg op d s1 s2) x = none_page
-effect_page (instr.Find ones d s2) x = none_page
-effect_page (instr.Branch link delayed words) x = none_page
 effect_page (instr.BranchBit set delayed bit s1 words) x = branches_page (bit_is set bit x.s1) delayed words x
 effect_page (instr.BranchCond delayed mask s1 words) x = branches_page (class_in mask x.s1) delayed words x
-effect_page (instr.Jump link delayed s2) x = none_page
 effect_page (instr.TrapBit set bit s1 vector) x = traps_page (bit_is set bit x.s1) vector x
 effect_page (instr.TrapCond mask s1 vector) x = traps_page (class_in mask x.s1) vector x
 effect_page (instr.BoundImm s1 imm) x = checks_page x.s1 imm x
@@ -97,6 +84,7 @@ effect_page (instr.Ldcr d cr float) x = controls_page float
 effect_page (instr.Stcr s1 cr float) x = controls_page float
 effect_page (instr.Xcr d s1 cr float) x = controls_page float
 effect_page (instr.Sfu unit rest) x = tt
+effect_page _ x = none_page
 
 pub one_page : (i : Instr) (regs : List ℕ) (carry mxm : Bool) (pc next : ℕ) →
     PlansOnePage (plan_for (meaning_of i regs carry mxm pc next))

@@ -37,9 +37,8 @@ slot_back s h = slot_parts s.addr s.v s.e h
 
 -- and a word is that of its pointer
 bit_mark : (n : ℕ) → n < 2 → mark_bit (n == 1) ≡ n
-bit_mark zero h = refl
-bit_mark (suc zero) h = refl
 bit_mark (suc (suc n)) h = absurd (omega (arith, h))
+bit_mark _ h = refl
 
 pub word_back : (w : ℕ) → slot_word (slot_of w) ≡ w
 word_back w =

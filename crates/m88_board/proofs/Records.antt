@@ -1,7 +1,7 @@
 -- The record that a data fault leaves, from the parts.
 use Rattle.std.specs.Prelude.{ℕ, Bool, true, false, not, List, Option, ◌≡◌, ◌≢◌, ◌+◌, is_none, if◌then◌else◌}
 use Rattle.std.specs.Int.{bit_at}
-use Rattle.std.proofs.Common.{arith, sym, ap, ◌∙◌}
+use Rattle.std.proofs.Common.{arith, sym, ap, ap₂, ◌∙◌}
 use Rattle.std.proofs.lemmas.Bool.{eqb-false}
 use Rattle.std.proofs.lemmas.Nat.Bits.{bit_at-lt}
 use Rattle.m88_base.proofs.Laws.{bit_of_member}
@@ -14,7 +14,7 @@ use Rattle.m88_event.proofs.Laws.{same_situation}
 use Rattle.m88_event.specs.Local.{Local, record_by, situation_of}
 use Rattle.m88_event.specs.Shadow.{fip_of, nip_of}
 use Rattle.m88_event.specs.Situation.{record_of}
-use Rattle.m88_event.specs.Timeline.{Moment, record_at}
+use Rattle.m88_event.specs.Timeline.{Moment, Run, record_at}
 use Rattle.m88_event.specs.declared.record.Record.{Record}
 use Rattle.m88_isa.specs.Address.{after_bytes}
 use Rattle.m88_isa.specs.Machine.{Program, four_bytes}
@@ -100,23 +100,7 @@ pub piped_by : (p : Program) (b : BoardView) (epsr sxip snip sfip ssbr : ℕ) (t
       triples = triples;
     } ≡ record_by p b.limit (local_of b)
 piped_by p b epsr sxip snip sfip ssbr triples of kept status first second third waits all =
-    let same : record {
-      event = b.events + 1;
-      epsr = epsr;
-      sxip = sxip;
-      snip = snip;
-      sfip = sfip;
-      ssbr = ssbr;
-      triples = triples;
-    } ≡ record {
-      event = b.events + 1;
-      epsr = epsr_of b;
-      sxip = slot_word b.slots.xip;
-      snip = slot_word b.slots.nip;
-      sfip = slot_word b.slots.fip;
-      ssbr = register_bits (waiting_of b.file);
-      triples = triples_of b.pending;
-    } = λ i. record {
+    (λ i. record {
       event = b.events + 1;
       epsr = status i;
       sxip = first i;
@@ -124,13 +108,10 @@ piped_by p b epsr sxip snip sfip ssbr triples of kept status first second third 
       sfip = third i;
       ssbr = waits i;
       triples = all i;
-    } in
-    same ∙ piped p b of kept
+    }) ∙ piped p b of kept
 
 -- and at a moment
-pub piped_at : (p : Program) (named : ℕ → Bool) (m : Moment) (b : BoardView) (fault : Record) →
-    IsAt p named m b →
-    fault ≡ record_by p b.limit (local_of b) →
-    fault ≡ record_at p named b.limit m
-piped_at p named m b fault at is =
-    is ∙ ap (λ (l : Local). record_by p b.limit l) at.seen ∙ ap (record_of p) (same_situation p named b.limit m)
+pub piped_at : (r : Run) (m : Moment) (b : BoardView) (fault : Record) → IsAt r m b →
+    fault ≡ record_by r.program b.limit (local_of b) → fault ≡ record_at r m
+piped_at r m b fault at is =
+    is ∙ ap₂ (λ (n : ℕ) (l : Local). record_by r.program n l) at.limit at.seen ∙ ap (record_of r.program) (same_situation r m)

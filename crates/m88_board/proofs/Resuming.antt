@@ -13,7 +13,7 @@ use Rattle.m88_event.proofs.Laws.{drained_bus, ended_is}
 use Rattle.m88_event.specs.Local.{Local, local_at}
 use Rattle.m88_event.specs.Past.{HasPast}
 use Rattle.m88_event.specs.Shadow.{fip_of, nip_of, retired_pointer, status_of}
-use Rattle.m88_event.specs.Timeline.{Moment, end_of_turn, nip_at, xip_at, xip_along}
+use Rattle.m88_event.specs.Timeline.{Moment, Run, end_of_turn, nip_at, xip_along, xip_at}
 use Rattle.m88_event.specs.declared.happened.End.{End}
 use Rattle.m88_isa.proofs.Laws.{program_of_image, state_straight, state_words, twice_at_most}
 use Rattle.m88_isa.specs.Address.{after_bytes}
@@ -81,12 +81,11 @@ abbrev slots_at : Program → Moment → Pointers
 slots_at p m = slots_by p m.bubble (xip_at p m.retired) (state p m.retired).pc (state p m.retired).next
 
 -- are those of the context's words
-pub slots_back : (p : Program) (named : ℕ → Bool) (m : Moment) (c : Context) → StandsFor p named m c →
-    pointers_in c ≡ slots_at p m
-slots_back p named m c stands =
-    let xip = ap slot_of stands.saved.sxip ∙ slot_back (xip_at p m.retired) (xip_word p m.retired) in
-    let nip = ap slot_of stands.saved.snip ∙ slot_back (nip_at p m) (nip_word p m.bubble m.retired) in
-    let fip = ap slot_of stands.saved.sfip ∙ slot_back _ (fip_word p m.bubble m.retired) in
+pub slots_back : (r : Run) (m : Moment) (c : Context) → StandsFor r m c → pointers_in c ≡ slots_at r.program m
+slots_back r m c stands =
+    let xip = ap slot_of stands.saved.sxip ∙ slot_back (xip_at r.program m.retired) (xip_word r.program m.retired) in
+    let nip = ap slot_of stands.saved.snip ∙ slot_back (nip_at r.program m) (nip_word r.program m.bubble m.retired) in
+    let fip = ap slot_of stands.saved.sfip ∙ slot_back _ (fip_word r.program m.bubble m.retired) in
     λ i. record { xip = xip i; nip = nip i; fip = fip i }
 
 -- the next two addresses, and the mark of a bubble
@@ -104,34 +103,34 @@ bubble_back p true xip pc next = refl
 bubble_back p false xip pc next = refl
 
 -- behind a taken branch without a delay slot the two next instructions follow one another
-straight : (p : Program) (limit : ℕ) (m : Moment) → HasPast p limit m → m.bubble ≡ true →
-    (state p m.retired).next ≡ after_bytes (state p m.retired).pc 4
-straight p limit m past bubble =
+straight : (r : Run) (m : Moment) → HasPast r m → m.bubble ≡ true →
+    (state r.program m.retired).next ≡ after_bytes (state r.program m.retired).pc 4
+straight r m past bubble =
     let behind = past.bubbled bubble in
-    subst (λ (n : ℕ). (state p n).next ≡ after_bytes (state p n).pc 4) (sym behind.last)
-    (state_straight p behind.before behind.change behind.turn behind.flows)
+    subst (λ (n : ℕ). (state r.program n).next ≡ after_bytes (state r.program n).pc 4) (sym behind.last)
+    (state_straight r.program behind.before behind.change behind.turn behind.flows)
 
 -- its program has bytes and instructions that there are
-is_program : (p : Program) (named : ℕ → Bool) (m : Moment) (c : Context) → StandsFor p named m c → IsProgram p
-is_program p named m c stands = program_of_image c.memory.image p stands.is_image stands.image
+is_program : (r : Run) (m : Moment) (c : Context) → StandsFor r m c → IsProgram r.program
+is_program r m c stands = program_of_image c.memory.image r.program stands.is_image stands.image
 
 -- it looks like the moment
-pub looks : (p : Program) (named : ℕ → Bool) (m : Moment) (c : Context) (file : Registers) (control : ControlRegisters) →
-    StandsFor p named m c → AreResumed c file control → local_of (resumed_board c file control) ≡ local_at p named m
+pub looks : (r : Run) (m : Moment) (c : Context) (file : Registers) (control : ControlRegisters) →
+    StandsFor r m c → AreResumed c file control → local_of (resumed_board c file control) ≡ local_at r m
 unfolding local_of completed_of local_at completed_state after_accesses
-looks p named m c file control stands are =
-    let s : State = state p m.retired in
-    let slots = slots_back p named m c stands in
+looks r m c file control stands are =
+    let s : State = state r.program m.retired in
+    let slots = slots_back r m c stands in
     let status = are.psr ∙ stands.saved.epsr in
     let carry = ap (λ w. bit_at w carry_place == 1) status ∙ carry_back s.carry s.mxm in
     let mxm = ap (λ w. bit_at w 2 == 1) status ∙ mxm_back s.carry s.mxm in
-    let pc = ap pc_of slots ∙ pc_back p m.bubble (xip_at p m.retired) s.pc s.next in
+    let pc = ap pc_of slots ∙ pc_back r.program m.bubble (xip_at r.program m.retired) s.pc s.next in
     let next = ap next_of slots
-    ∙ next_back p m.bubble (xip_at p m.retired) s.pc s.next (straight p c.book.limit m stands.past) in
-    let bubble = ap (λ (x : Pointers). not x.nip.v) slots ∙ bubble_back p m.bubble (xip_at p m.retired) s.pc s.next in
+    ∙ next_back r.program m.bubble (xip_at r.program m.retired) s.pc s.next (straight r m stands.past) in
+    let bubble = ap (λ (x : Pointers). not x.nip.v) slots ∙ bubble_back r.program m.bubble (xip_at r.program m.retired) s.pc s.next in
     let regs = are.numbers ∙ stands.saved.regs in
-    let words = stands.words ∙ drained_bus p m.retired m.done (is_program p named m c stands) stands.drained in
-    let pending = sym (drop_all m.done (transactions p m.retired) (let e = stands.drained in omega (arith, e))) in
+    let words = stands.words ∙ drained_bus r.program m.retired m.done (is_program r m c stands) stands.drained in
+    let pending = sym (drop_all m.done (transactions r.program m.retired) (let e = stands.drained in omega (arith, e))) in
     λ i. record {
       completed = record {
         regs = regs i;
@@ -156,13 +155,14 @@ looks p named m c file control stands are =
     }
 
 -- it stands at the moment
-pub stands_at : (p : Program) (named : ℕ → Bool) (m : Moment) (c : Context) (file : Registers) (control : ControlRegisters) →
-    StandsFor p named m c → AreResumed c file control → IsAt p named m (resumed_board c file control)
-stands_at p named m c file control stands are = record {
+pub stands_at : (r : Run) (m : Moment) (c : Context) (file : Registers) (control : ControlRegisters) →
+    StandsFor r m c → AreResumed c file control → IsAt r m (resumed_board c file control)
+stands_at r m c file control stands are = record {
   image = stands.image;
+  limit = stands.limit;
   within = let e = stands.drained in omega (arith, e);
   past = stands.past;
-  seen = looks p named m c file control stands are;
+  seen = looks r m c file control stands are;
 }
 
 -- XIP of a history is an instruction that was retired, or nothing
@@ -198,13 +198,14 @@ valid_behind : (p : Program) (n before : ℕ) → n ≡ before + 1 → (xip_at p
 unfolding xip_along
 valid_behind p n before last = subst (λ (k : ℕ). (xip_at p k).v ≡ true) (sym last) (rw add-one refl)
 
-behind_at : (p : Program) (limit : ℕ) (m : Moment) → HasPast p limit m → (slots_at p m).nip.v ≡ false →
-    IsBehind m.retired (slots_at p m)
-behind_at p limit m past h =
-    let behind = past.bubbled (bubble_of p m.bubble (xip_at p m.retired) (state p m.retired).pc (state p m.retired).next h) in
+behind_at : (r : Run) (m : Moment) → HasPast r m → (slots_at r.program m).nip.v ≡ false →
+    IsBehind m.retired (slots_at r.program m)
+behind_at r m past h =
+    let s : State = state r.program m.retired in
+    let behind = past.bubbled (bubble_of r.program m.bubble (xip_at r.program m.retired) s.pc s.next h) in
     record {
       some = let last = behind.last in omega (arith, last);
-      xip = valid_behind p m.retired behind.before behind.last;
+      xip = valid_behind r.program m.retired behind.before behind.last;
     }
 
 -- a program ends by itself
@@ -227,32 +228,33 @@ either true a b w first second = first
 either false a b w first second = second
 
 -- the turn of a program at the state reached
-ends_by : (p q : Program) (named : ℕ → Bool) (m : Moment) (b : BoardView) → local_of b ≡ local_at p named m →
-    turn_by q (completed_of b) ≡ turn_by q (completed_state (state p m.retired))
+ends_by : (q : Program) (r : Run) (m : Moment) (b : BoardView) → local_of b ≡ local_at r m →
+    turn_by q (completed_of b) ≡ turn_by q (completed_state (state r.program m.retired))
 unfolding local_of local_at
-ends_by p q named m b seen = ap (λ (l : Local). turn_by q l.completed) seen
+ends_by q r m b seen = ap (λ (l : Local). turn_by q l.completed) seen
 
 -- what always holds of a board
-pub kept_resumed : (p : Program) (named : ℕ → Bool) (m : Moment) (c : Context) (file : Registers) (control : ControlRegisters) →
-    StandsFor p named m c → AreResumed c file control → IsKept (resumed_board c file control)
-kept_resumed p named m c file control stands are =
-    let s : State = state p m.retired in
-    let slots = sym (slots_back p named m c stands) in
+pub kept_resumed : (r : Run) (m : Moment) (c : Context) (file : Registers) (control : ControlRegisters) →
+    StandsFor r m c → AreResumed c file control → IsKept (resumed_board c file control)
+kept_resumed r m c file control stands are =
+    let s : State = state r.program m.retired in
+    let slots = sym (slots_back r m c stands) in
     let status = stands.saved.epsr in
     let carry = ap (λ w. bit_at w carry_place == 1) (are.psr ∙ status) ∙ carry_back s.carry s.mxm in
     let mxm = ap (λ w. bit_at w 2 == 1) (are.psr ∙ status) ∙ mxm_back s.carry s.mxm in
-    let ended = ap (λ (e : Option End). is_some e) stands.book.ended ∙ ended_is p m in
+    let ended = ap (λ (e : Option End). is_some e) stands.book.ended ∙ ended_is r.program m in
     let retired = stands.book.retired in
     let done = stands.book.done in
     let answers = stands.book.answers in
     let records = ap length stands.book.records in
     let out = ap length stands.book.out in
     let drained = stands.drained in
-    let twice = twice_at_most p m.retired (is_program p named m c stands) in
+    let twice = twice_at_most r.program m.retired (is_program r m c stands) in
     let counted = stands.past.counted in
     let put_out = stands.past.put_out in
     let within = stands.past.within in
-    let seen = looks p named m c file control stands are in
+    let limit = stands.limit in
+    let seen = looks r m c file control stands are in
     record {
       parts = record {
         few = omega arith;
@@ -263,24 +265,24 @@ kept_resumed p named m c file control stands are =
       };
       image = stands.is_image;
       slots = subst (SlotsAgree c.memory.image) slots
-          (slots_agree c.memory.image p m.bubble (xip_at p m.retired) s.pc s.next stands.image (xip_back p m.retired));
+          (slots_agree c.memory.image r.program m.bubble (xip_at r.program m.retired) s.pc s.next stands.image (xip_back r.program m.retired));
       bubbled = subst (λ (x : Pointers). x.nip.v ≡ false → IsBehind c.book.retired x) slots
-          (λ h. subst (λ (n : ℕ). IsBehind n (slots_at p m)) (sym retired) (behind_at p c.book.limit m stands.past h));
+          (λ h. subst (λ (n : ℕ). IsBehind n (slots_at r.program m)) (sym retired) (behind_at r m stands.past h));
       unbubbled = subst (λ (x : Pointers). is_some c.book.end ≡ true → x.nip.v ≡ true) slots
-          (λ h. valid_of p m.bubble (xip_at p m.retired) s.pc s.next (stands.past.unbubbled (sym ended ∙ h)));
+          (λ h. valid_of r.program m.bubble (xip_at r.program m.retired) s.pc s.next (stands.past.unbubbled (sym ended ∙ h)));
       status = either (is_some c.book.end) control.epsr control.psr c.saved.epsr are.epsr are.psr
           ∙ status ∙ ap₂ status_of (sym carry) (sym mxm);
       drained = λ h. refl;
       made = omega (arith, retired, done, drained, twice);
       told = omega (arith, answers, records, done, counted);
       put_out = omega (arith, out, retired, put_out);
-      within = omega (arith, retired, within);
-      early = λ h. let less = (stands.past.ended (sym ended ∙ h)).early in omega (arith, retired, less);
+      within = omega (arith, retired, within, limit);
+      early = λ h. let less = (stands.past.ended (sym ended ∙ h)).early in omega (arith, retired, less, limit);
       ends = subst (λ (e : Option End). IfSome e IsProgramEnd) (sym stands.book.ended)
-          (ends_itself m.ended (turn_at p s) (λ h. (stands.past.ended h).next));
+          (ends_itself m.ended (turn_at r.program s) (λ h. (stands.past.ended h).next));
       ends_so = subst (λ (e : Option End). IfSome e (EndsSo (resumed_board c file control))) (sym stands.book.ended)
-          (ends_alike m.ended (turn_at p s) (EndsSo (resumed_board c file control))
-          (λ q of. ap end_of_turn (ends_by p q named m (resumed_board c file control) seen ∙ same_turn c.memory.image p q s stands.image of)));
+          (ends_alike m.ended (turn_at r.program s) (EndsSo (resumed_board c file control))
+          (λ q of. ap end_of_turn (ends_by q r m (resumed_board c file control) seen ∙ same_turn c.memory.image r.program q s stands.image of)));
       small = stands.small;
       counted = stands.counted;
     }
@@ -310,13 +312,12 @@ same_board c b from = λ i. record {
 pub kept_from : (c : Context) (b : BoardView) → StandsForSome c → ComesFrom c b → IsKept b
 kept_from c b stands from =
     subst IsKept (sym (same_board c b from))
-    (kept_resumed stands.0 stands.1 stands.2 c b.file b.control stands.3 from.are)
+    (kept_resumed stands.0 stands.1 c b.file b.control stands.2 from.are)
 
 -- at each moment for which the context stands
-pub at_from : (p : Program) (named : ℕ → Bool) (m : Moment) (c : Context) (b : BoardView) → StandsFor p named m c →
-    ComesFrom c b → IsAt p named m b
-at_from p named m c b stands from =
-    subst (IsAt p named m) (sym (same_board c b from)) (stands_at p named m c b.file b.control stands from.are)
+pub at_from : (r : Run) (m : Moment) (c : Context) (b : BoardView) → StandsFor r m c → ComesFrom c b → IsAt r m b
+at_from r m c b stands from =
+    subst (IsAt r m) (sym (same_board c b from)) (stands_at r m c b.file b.control stands from.are)
 
 -- and has its words
 status_from : (ended : Bool) (control : ControlRegisters) (w : ℕ) → control.psr ≡ w → control.epsr ≡ w →
@@ -336,6 +337,6 @@ words_from c b from =
     }
 
 -- r0 is 0
-pub zero_in : (p : Program) (named : ℕ → Bool) (m : Moment) (c : Context) → StandsFor p named m c →
+pub zero_in : (r : Run) (m : Moment) (c : Context) → StandsFor r m c →
     slice_index c.saved.regs 0 ≡ 0
-zero_in p named m c stands = ap (λ (regs : List ℕ). slice_index regs 0) stands.saved.regs ∙ zero_is p m.retired
+zero_in r m c stands = ap (λ (regs : List ℕ). slice_index regs 0) stands.saved.regs ∙ zero_is r.program m.retired

@@ -9,7 +9,7 @@ use Rattle.m88_ctrl.specs.ControlRegisters.{carry_of, mxm_of}
 use Rattle.m88_event.proofs.Laws.{ended_is, same_over}
 use Rattle.m88_event.specs.Local.{Local, is_over_by, local_at, register_seen, register_shown}
 use Rattle.m88_event.specs.Shadow.{fip_of, nip_of, status_of}
-use Rattle.m88_event.specs.Timeline.{Moment, is_over, nip_at}
+use Rattle.m88_event.specs.Timeline.{Moment, Run, is_over, nip_at}
 use Rattle.m88_isa.proofs.Laws.{by_test, same_after_accesses}
 use Rattle.m88_isa.specs.Bus.{Cells, after_access, after_accesses, loaded, waits_for}
 use Rattle.m88_isa.specs.Held.{is_pending}
@@ -43,11 +43,6 @@ pub not_over_if : (b : BoardView) (pending : Bool) → pending ≡ is_pending b.
 not_over_if b pending is some =
     ap not some ∙ sym (ap (λ (t : Bool). not t && is_idle_board b) (sym is ∙ some)) ∙ over_of b
 
--- and so at a moment
-pub over_at : (p : Program) (named : ℕ → Bool) (m : Moment) (b : BoardView) → IsAt p named m b →
-    is_over_by b.limit (local_of b) ≡ is_over p b.limit m
-over_at p named m b at = ap (is_over_by b.limit) at.seen ∙ same_over p named b.limit m at.within
-
 -- NIP
 nip_shown : (p : Program) (b : BoardView) → IsProgramOf b.memory.image p → SlotsAgree b.memory.image b.slots →
     b.slots.nip ≡ nip_of p (local_of b).bubble (local_of b).xip (local_of b).completed.pc
@@ -56,32 +51,12 @@ nip_shown p b of slots =
     nip_is (byte_at b.memory.image) p b.slots.xip b.slots.nip.addr b.slots.nip.v b.slots.nip.e b.slots.fip.addr of.bytes
     slots.nip
 
-pub nip_seen : (p : Program) (named : ℕ → Bool) (m : Moment) (b : BoardView) → IsAt p named m b →
-    SlotsAgree b.memory.image b.slots →
-    b.slots.nip ≡ nip_at p m
-unfolding local_at completed_state
-nip_seen p named m b at slots =
-    nip_shown p b at.image slots ∙ ap (λ (l : Local). nip_of p l.bubble l.xip l.completed.pc) at.seen
-
 -- FIP
 fip_shown : (p : Program) (b : BoardView) → IsProgramOf b.memory.image p → SlotsAgree b.memory.image b.slots →
     b.slots.fip ≡ fip_of p (local_of b).bubble (local_of b).completed.pc (local_of b).completed.next
 unfolding local_of completed_of
 fip_shown p b of slots =
     fip_is (byte_at b.memory.image) p b.slots.fip b.slots.nip.addr b.slots.nip.v of.bytes slots.fip
-
--- the three
-pub pointers_are : (p : Program) (named : ℕ → Bool) (m : Moment) (b : BoardView) → IsAt p named m b →
-    SlotsAgree b.memory.image b.slots →
-    ArePointers p m b.slots
-unfolding local_of local_at completed_state
-pointers_are p named m b at slots = record {
-  xip = ap (λ (l : Local). l.xip) at.seen;
-  nip = nip_seen p named m b at slots;
-  fip =
-      fip_shown p b at.image slots
-      ∙ ap (λ (l : Local). fip_of p l.bubble l.completed.pc l.completed.next) at.seen;
-}
 
 -- a register that doesn't wait has its value already
 zero_after : (x : Access) (c : Cells) → slice_index (after_access x c).regs 0 ≡ slice_index c.regs 0
@@ -131,81 +106,89 @@ register_is b r (Ok value) o same is busy known =
 register_is b r (Err e) o same is busy known =
     is ∙ sym (by_waiting b.pending (completed_of b).regs r true (sym (ap (λ (set : ℕ → Bool). set r) same) ∙ busy.0 refl))
 
-pub value_at : (p : Program) (named : ℕ → Bool) (m : Moment) (b : BoardView) (r : ℕ) → IsAt p named m b →
-    register_seen b.pending (completed_of b).regs r
-    ≡ register_shown p m r
-unfolding local_of local_at completed_state
-value_at p named m b r at = ap (λ (l : Local). register_seen l.pending l.completed.regs r) at.seen
+-- what it shows at a moment
+module _ (r : Run) (m : Moment) (b : BoardView) (at : IsAt r m b) where
+  -- whether the run is over
+  pub over_at : is_over_by b.limit (local_of b) ≡ is_over r m
+  over_at = ap₂ is_over_by at.limit at.seen ∙ same_over r m at.within
 
--- the register file
-pub registers_seen : (p : Program) (named : ℕ → Bool) (m : Moment) (b : BoardView) → IsAt p named m b → IsKept b →
-    AreRegisters p m b.file
-unfolding local_of local_at completed_state
-registers_seen p named m b at kept =
-    let pending : b.pending ≡ pending_at p m.retired m.done = ap (λ (l : Local). l.pending) at.seen in
-    record {
-      waiting = kept.parts.waiting ∙ ap waits_for pending;
-      values = λ r free.
-          value_seen b r (ap (λ (xs : List Access). waits_for xs r) pending ∙ free)
-          ∙ ap (λ (l : Local). slice_index l.completed.regs r) at.seen;
-    }
+  -- the instruction pointers
+  pub nip_seen : SlotsAgree b.memory.image b.slots → b.slots.nip ≡ nip_at r.program m
+  unfolding local_at completed_state
+  nip_seen slots =
+      nip_shown r.program b at.image slots ∙ ap (λ (l : Local). nip_of r.program l.bubble l.xip l.completed.pc) at.seen
 
--- the data unit
-pub pending_seen : (p : Program) (named : ℕ → Bool) (m : Moment) (b : BoardView) → IsAt p named m b →
-    b.pending ≡ pending_at p m.retired m.done
-unfolding local_of local_at
-pending_seen p named m b at = ap (λ (l : Local). l.pending) at.seen
+  pub pointers_are : SlotsAgree b.memory.image b.slots → ArePointers r.program m b.slots
+  unfolding local_of local_at completed_state
+  pointers_are slots = record {
+    xip = ap (λ (l : Local). l.xip) at.seen;
+    nip = nip_seen slots;
+    fip =
+        fip_shown r.program b at.image slots
+        ∙ ap (λ (l : Local). fip_of r.program l.bubble l.completed.pc l.completed.next) at.seen;
+  }
 
--- memory
-pub words_seen : (p : Program) (named : ℕ → Bool) (m : Moment) (b : BoardView) → IsAt p named m b →
-    bus_of b.memory ≡ bus_at p m.retired m.done
-unfolding local_of local_at
-words_seen p named m b at = ap (λ (l : Local). l.bus) at.seen
+  -- the data unit
+  pub pending_seen : b.pending ≡ pending_at r.program m.retired m.done
+  unfolding local_of local_at
+  pending_seen = ap (λ (l : Local). l.pending) at.seen
 
-pub memory_seen : (p : Program) (named : ℕ → Bool) (m : Moment) (b : BoardView) → IsAt p named m b → IsKept b →
-    IsDataBus p named m b.memory
-unfolding local_of local_at
-memory_seen p named m b at kept = record {
-  image = at.image;
-  words = words_seen p named m b at;
-  absent = ap (λ (l : Local). l.absent) at.seen;
-  ready = subst (AreReady (ready_of b.memory)) (pending_seen p named m b at) kept.parts.ready;
-}
+  -- the register file
+  pub value_at : (n : ℕ) → register_seen b.pending (completed_of b).regs n ≡ register_shown r.program m n
+  unfolding local_of local_at completed_state
+  value_at n = ap (λ (l : Local). register_seen l.pending l.completed.regs n) at.seen
 
--- the control registers
-pub carry_seen : (p : Program) (named : ℕ → Bool) (m : Moment) (b : BoardView) → IsAt p named m b →
-    carry_of b.control ≡ (state p m.retired).carry
-unfolding local_of completed_of local_at completed_state
-carry_seen p named m b at = ap (λ (l : Local). l.completed.carry) at.seen
+  pub registers_seen : IsKept b → AreRegisters r.program m b.file
+  unfolding local_of local_at completed_state
+  registers_seen kept = record {
+    waiting = kept.parts.waiting ∙ ap waits_for pending_seen;
+    values = λ n free.
+        value_seen b n (ap (λ (xs : List Access). waits_for xs n) pending_seen ∙ free)
+        ∙ ap (λ (l : Local). slice_index l.completed.regs n) at.seen;
+  }
 
--- and MXM
-pub mxm_seen : (p : Program) (named : ℕ → Bool) (m : Moment) (b : BoardView) → IsAt p named m b →
-    mxm_of b.control ≡ (state p m.retired).mxm
-unfolding local_of completed_of local_at completed_state
-mxm_seen p named m b at = ap (λ (l : Local). l.completed.mxm) at.seen
+  -- memory
+  pub words_seen : bus_of b.memory ≡ bus_at r.program m.retired m.done
+  unfolding local_of local_at
+  words_seen = ap (λ (l : Local). l.bus) at.seen
 
-ended_seen : (p : Program) (named : ℕ → Bool) (m : Moment) (b : BoardView) → IsAt p named m b → is_some b.ended ≡ m.ended
-unfolding local_of local_at
-ended_seen p named m b at = ap (λ (l : Local). is_some l.ended) at.seen ∙ ended_is p m
+  pub memory_seen : IsKept b → IsDataBus r m b.memory
+  unfolding local_of local_at
+  memory_seen kept = record {
+    image = at.image;
+    words = words_seen;
+    absent = ap (λ (l : Local). l.absent) at.seen;
+    ready = subst (AreReady (ready_of b.memory)) pending_seen kept.parts.ready;
+  }
 
-pub status_seen : (p : Program) (named : ℕ → Bool) (m : Moment) (b : BoardView) → IsAt p named m b → IsKept b →
-    IsStatus p m b.control
-status_seen p named m b at kept = record {
-  status =
-      sym (ap (λ (t : Bool). if t then b.control.epsr else b.control.psr) (ended_seen p named m b at))
-      ∙ kept.status
-      ∙ ap₂ status_of (carry_seen p named m b at) (mxm_seen p named m b at);
-  carry = carry_seen p named m b at;
-}
+  -- the control registers: the carry, MXM and the status
+  pub carry_seen : carry_of b.control ≡ (state r.program m.retired).carry
+  unfolding local_of completed_of local_at completed_state
+  carry_seen = ap (λ (l : Local). l.completed.carry) at.seen
 
--- a glance
-pub glance_is : (p : Program) (named : ℕ → Bool) (m : Moment) (b : BoardView) → IsAt p named m b →
-    SlotsAgree b.memory.image b.slots →
-    glance_of b ≡ glance_at p m
-unfolding local_of local_at
-glance_is p named m b at slots = λ i. record {
-  events = (at.seen i).events;
-  issued = (at.seen i).retired;
-  done = (at.seen i).done;
-  next = nip_seen p named m b at slots i;
-}
+  pub mxm_seen : mxm_of b.control ≡ (state r.program m.retired).mxm
+  unfolding local_of completed_of local_at completed_state
+  mxm_seen = ap (λ (l : Local). l.completed.mxm) at.seen
+
+  ended_seen : is_some b.ended ≡ m.ended
+  unfolding local_of local_at
+  ended_seen = ap (λ (l : Local). is_some l.ended) at.seen ∙ ended_is r.program m
+
+  pub status_seen : IsKept b → IsStatus r.program m b.control
+  status_seen kept = record {
+    status =
+        sym (ap (λ (t : Bool). if t then b.control.epsr else b.control.psr) ended_seen)
+        ∙ kept.status
+        ∙ ap₂ status_of carry_seen mxm_seen;
+    carry = carry_seen;
+  }
+
+  -- a glance
+  pub glance_is : SlotsAgree b.memory.image b.slots → glance_of b ≡ glance_at r.program m
+  unfolding local_of local_at
+  glance_is slots = λ i. record {
+    events = (at.seen i).events;
+    issued = (at.seen i).retired;
+    done = (at.seen i).done;
+    next = nip_seen slots i;
+  }

@@ -11,7 +11,7 @@ use Rattle.m88_event.proofs.Laws.{opens_with}
 use Rattle.m88_event.specs.Local.{Local, local_at}
 use Rattle.m88_isa.specs.declared.planned.Access.{Access}
 use Rattle.m88_event.specs.Shadow.{status_of}
-use Rattle.m88_event.specs.Timeline.{opening_moment, xip_along}
+use Rattle.m88_event.specs.Timeline.{Run, opening_moment, xip_along}
 use Rattle.m88_isa.specs.Address.{after_bytes, word_address}
 use Rattle.m88_isa.specs.Bus.{after_accesses, bus_after_all, in_words}
 use Rattle.m88_isa.specs.History.{completed_state, transactions}
@@ -132,35 +132,32 @@ unfolding local_of completed_of after_accesses bus_of
 board_seen true limit chosen entry e0 e1 file memory = refl
 board_seen false limit chosen entry e0 e1 file memory = refl
 
-moment_seen : (p : Program) (named : ℕ → Bool) →
-    local_at p named opening_moment
-    ≡ seen_at p.mxm (replicate 32 0) (in_words (λ a. unwrap_or (p.byte a) 0)) (λ page. named page && not false)
-    (word_address p.start)
+moment_seen : (r : Run) →
+    local_at r opening_moment
+    ≡ seen_at r.program.mxm (replicate 32 0) (in_words (λ a. unwrap_or (r.program.byte a) 0))
+    (λ page. r.absent page && not false) (word_address r.program.start)
 unfolding local_at completed_state state opening transactions xip_along bus_after_all
-moment_seen p named = refl
+moment_seen r = refl
 
 -- it stands at the first moment
-pub opens : (p : Program) (named : ℕ → Bool) (mxm : Bool) (limit : ℕ) (chosen : Absent) (entry : ℕ) (e0 e1 : Bool) (file : Registers) (memory : MemoryView) →
+pub opens : (r : Run) (mxm : Bool) (chosen : Absent) (entry : ℕ) (e0 e1 : Bool) (file : Registers) (memory : MemoryView) →
     file.numbers ≡ replicate 32 0 →
     bus_of memory ≡ image_bus memory.image →
-    absent_of memory ≡ named →
+    absent_of memory ≡ r.absent →
     entry ≡ word_address memory.image.start →
-    IsProgramOf memory.image p →
-    p.mxm ≡ mxm →
-    IsAt p named opening_moment (starting mxm limit chosen (at_entry entry e0 e1) file memory)
+    IsProgramOf memory.image r.program →
+    r.program.mxm ≡ mxm →
+    IsAt r opening_moment (starting mxm r.limit chosen (at_entry entry e0 e1) file memory)
 unfolding transactions
-opens p named mxm limit chosen entry e0 e1 file memory numbers bus absent start of mode = record {
+opens r mxm chosen entry e0 e1 file memory numbers bus absent start of mode = record {
   image = of;
+  limit = refl;
   within = omega arith;
-  past = opens_with p limit;
-  seen = board_seen mxm limit chosen entry e0 e1 file memory
-      ∙ ap (λ ns. seen_at mxm ns (bus_of memory) (absent_of memory) entry) numbers
-      ∙ ap (λ b. seen_at mxm (replicate 32 0) b (absent_of memory) entry) (bus ∙ same_bytes p memory.image of)
-      ∙ ap (λ t. seen_at mxm (replicate 32 0) (in_words (λ a. unwrap_or (p.byte a) 0)) t entry)
-      (absent ∙ fun_ext (λ page. still_absent (named page)))
-      ∙ ap (λ e. seen_at mxm (replicate 32 0) (in_words (λ a. unwrap_or (p.byte a) 0)) (λ page. named page && not false) e)
-      (start ∙ ap word_address (sym of.start))
-      ∙ ap (λ (m : Bool). seen_at m (replicate 32 0) (in_words (λ a. unwrap_or (p.byte a) 0)) (λ page. named page && not false)
-      (word_address p.start)) (sym mode)
-      ∙ sym (moment_seen p named);
+  past = opens_with r;
+  seen = board_seen mxm r.limit chosen entry e0 e1 file memory
+      ∙ (let words = bus ∙ same_bytes r.program memory.image of in
+      let pages = absent ∙ fun_ext (λ page. still_absent (r.absent page)) in
+      let place = start ∙ ap word_address (sym of.start) in
+      λ i. seen_at (sym mode i) (numbers i) (words i) (pages i) (place i))
+      ∙ sym (moment_seen r);
 }

@@ -40,27 +40,13 @@ pub passed : (fault : Record) (b : BoardView) (slots : Pointers) (e : Bool) →
     Does passes fault b (record b { slots = slots })
 unfolding local_of completed_of
 passed fault b slots e bubble valid is = record {
-  moved = λ i. record {
-    completed = record {
-      regs = (after_accesses b.pending (cells_in b.file b.memory)).regs;
-      carry = carry_of b.control;
-      mxm = mxm_of b.control;
+  moved = λ i. record (local_of b) {
+    completed = record (completed_of b) {
       pc = (ap pc_of is ∙ pc_passed b.slots e bubble valid) i;
       next = (ap next_of is ∙ next_passed b.slots e bubble valid) i;
-      bus = (after_accesses b.pending (cells_in b.file b.memory)).bus;
-      out = b.out;
     };
-    bus = bus_of b.memory;
-    pending = b.pending;
     xip = ap (λ (s : Pointers). s.xip) is i;
     bubble = (ap (λ (s : Pointers). not s.nip.v) is ∙ ap not valid) i;
-    ended = b.ended;
-    absent = absent_of b.memory;
-    retired = b.retired;
-    done = b.done;
-    events = b.events;
-    answers = b.answers;
-    records = b.records;
   };
   same = record { limit = refl; mxm = refl; named = refl; image = refl; begun = refl };
 }
@@ -80,27 +66,16 @@ pub replied : (fault : Record) (b : BoardView) (pending : List Access) (file : R
     })
 unfolding local_of completed_of
 replied fault b pending file memory left cells bus absent image = record {
-  moved = λ i. record {
-    completed = record {
+  moved = λ i. record (local_of b) {
+    completed = record (completed_of b) {
       regs = (cells i).regs;
-      carry = carry_of b.control;
-      mxm = mxm_of b.control;
-      pc = pc_of b.slots;
-      next = next_of b.slots;
       bus = (cells i).bus;
-      out = b.out;
     };
     bus = bus i;
     pending = left i;
-    xip = b.slots.xip;
-    bubble = not b.slots.nip.v;
-    ended = b.ended;
     absent = absent i;
-    retired = b.retired;
     done = b.done + 1;
-    events = b.events;
     answers = b.answers + 1;
-    records = b.records;
   };
   same = record { limit = refl; mxm = refl; named = refl; image = image; begun = refl };
 }
@@ -126,26 +101,21 @@ pub faulted : (fault : Record) (b : BoardView) (file : Registers) (memory : Memo
     })
 unfolding local_of completed_of after_accesses
 faulted fault b file memory control slots done cells bus absent image carry mxm same count = record {
-  moved = λ i. record {
-    completed = record {
+  moved = λ i. record (local_of b) {
+    completed = record (completed_of b) {
       regs = (cells i).regs;
       carry = carry i;
       mxm = mxm i;
       pc = pc_of (same i);
       next = next_of (same i);
       bus = (cells i).bus;
-      out = b.out;
     };
     bus = bus i;
     pending = [];
     xip = (same i).xip;
     bubble = not (same i).nip.v;
-    ended = b.ended;
     absent = absent i;
-    retired = b.retired;
     done = count i;
-    events = b.events;
-    answers = b.answers;
     records = b.records ++ fault ∷ [];
   };
   same = record { limit = refl; mxm = mxm; named = refl; image = image; begun = refl };
@@ -159,27 +129,13 @@ pub evicted : (fault : Record) (b : BoardView) (memory : MemoryView) →
     Does evicts fault b (record b { memory = memory })
 unfolding local_of completed_of
 evicted fault b memory bus absent image = record {
-  moved = λ i. record {
-    completed = record {
+  moved = λ i. record (local_of b) {
+    completed = record (completed_of b) {
       regs = (after_accesses b.pending (record { regs = b.file.numbers; bus = bus i })).regs;
-      carry = carry_of b.control;
-      mxm = mxm_of b.control;
-      pc = pc_of b.slots;
-      next = next_of b.slots;
       bus = (after_accesses b.pending (record { regs = b.file.numbers; bus = bus i })).bus;
-      out = b.out;
     };
     bus = bus i;
-    pending = b.pending;
-    xip = b.slots.xip;
-    bubble = not b.slots.nip.v;
-    ended = b.ended;
     absent = absent i;
-    retired = b.retired;
-    done = b.done;
-    events = b.events;
-    answers = b.answers;
-    records = b.records;
   };
   same = record { limit = refl; mxm = refl; named = refl; image = image; begun = refl };
 }
@@ -192,27 +148,12 @@ pub finished : (fault : Record) (stop : Stop) (b : BoardView) (control : Control
     Does (finishes stop) fault b (record b { control = control; book = record b.book { end = Some end } })
 unfolding local_of completed_of
 finished fault stop b control end by carry mxm = record {
-  moved = λ i. record {
-    completed = record {
-      regs = (after_accesses b.pending (cells_in b.file b.memory)).regs;
+  moved = λ i. record (local_of b) {
+    completed = record (completed_of b) {
       carry = carry i;
       mxm = mxm i;
-      pc = pc_of b.slots;
-      next = next_of b.slots;
-      bus = (after_accesses b.pending (cells_in b.file b.memory)).bus;
-      out = b.out;
     };
-    bus = bus_of b.memory;
-    pending = b.pending;
-    xip = b.slots.xip;
-    bubble = not b.slots.nip.v;
     ended = Some (by i);
-    absent = absent_of b.memory;
-    retired = b.retired;
-    done = b.done;
-    events = b.events;
-    answers = b.answers;
-    records = b.records;
   };
   same = record { limit = refl; mxm = mxm; named = refl; image = refl; begun = refl };
 }
@@ -229,27 +170,17 @@ pub put_out : (fault : Record) (byte : ℕ) (b : BoardView) (slots : Pointers) (
     })
 unfolding local_of completed_of after_turn
 put_out fault byte b slots control on carry mxm = record {
-  moved = λ i. record {
-    completed = record {
-      regs = (after_accesses b.pending (cells_in b.file b.memory)).regs;
+  moved = λ i. record (local_of b) {
+    completed = record (completed_of b) {
       carry = carry i;
       mxm = mxm i;
       pc = on.here i;
       next = on.behind i;
-      bus = (after_accesses b.pending (cells_in b.file b.memory)).bus;
       out = b.out ++ byte ∷ [];
     };
-    bus = bus_of b.memory;
-    pending = b.pending;
     xip = on.xip i;
     bubble = on.bubble_is i;
-    ended = b.ended;
-    absent = absent_of b.memory;
     retired = b.retired + 1;
-    done = b.done;
-    events = b.events;
-    answers = b.answers;
-    records = b.records;
   };
   same = record { limit = refl; mxm = mxm; named = refl; image = refl; begun = refl };
 }
@@ -278,27 +209,21 @@ issued fault change b slots pending file memory control on joined cells bus abse
     let all : after_accesses pending (cells_in file memory) ≡ cells_after change (completed_of b) =
     ap (λ (xs : List Access). after_accesses xs (cells_in file memory)) joined ∙ cells in
     record {
-      moved = λ i. record {
-        completed = record {
+      moved = λ i. record (local_of b) {
+        completed = record (completed_of b) {
           regs = (all i).regs;
           carry = carry i;
           mxm = mxm i;
           pc = on.here i;
           next = on.behind i;
           bus = (all i).bus;
-          out = b.out;
         };
         bus = bus i;
         pending = joined i;
         xip = on.xip i;
         bubble = on.bubble_is i;
-        ended = b.ended;
         absent = absent i;
         retired = b.retired + 1;
-        done = b.done;
-        events = b.events;
-        answers = b.answers;
-        records = b.records;
       };
       same = record { limit = refl; mxm = mxm; named = refl; image = image; begun = refl };
     }

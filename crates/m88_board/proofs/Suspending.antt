@@ -6,10 +6,9 @@ use Rattle.m88_base.specs.Slot.{slot_word}
 use Rattle.m88_ctrl.specs.ControlRegisters.{ControlRegisters, entered, mxm_of, returned}
 use Rattle.m88_event.specs.Local.{Local, local_at}
 use Rattle.m88_event.specs.Shadow.{status_of}
-use Rattle.m88_event.specs.Timeline.{Moment, is_drained, opening_moment}
+use Rattle.m88_event.specs.Timeline.{Moment, Run, is_drained, opening_moment}
 use Rattle.m88_isa.specs.Held.{is_pending}
 use Rattle.m88_isa.specs.History.{completed_state, transaction_count, transactions}
-use Rattle.m88_isa.specs.Machine.{Program}
 use Rattle.m88_isa.specs.declared.planned.Access.{Access}
 use Rattle.m88_mem.specs.Marks.{absent_in}
 use Rattle.m88_scoreboard.specs.Registers.{none_waits, waiting_of}
@@ -34,48 +33,45 @@ mxm_kept b kept = sym (ap mxm_in kept.status ∙ mxm_back _ (mxm_of b.control))
 pub own_run : (b : BoardView) → IsKept b → IsRunOf (context_of b) b
 own_run b kept = record { limit = refl; named = refl; image = refl; mxm = mxm_kept b kept; events = refl }
 
--- nothing is pending at the moment
-pub all_done : (p : Program) (named : ℕ → Bool) (m : Moment) (b : BoardView) → IsAt p named m b → b.pending ≡ [] →
-    is_drained p m ≡ true
-all_done p named m b at none =
-    sym (drained_by p named m b at) ∙ ap (λ (xs : List Access). not (is_pending xs)) none
+module _ (r : Run) (m : Moment) (b : BoardView) (at : IsAt r m b) where
+  -- nothing is pending at the moment
+  pub all_done : b.pending ≡ [] → is_drained r.program m ≡ true
+  all_done none = sym (drained_by r m b at) ∙ ap (λ (xs : List Access). not (is_pending xs)) none
 
--- and what is saved stands for it
-pub stands_for : (p : Program) (m : Moment) (b : BoardView) → IsKept b → b.pending ≡ [] →
-    IsAt p (absent_in b.named) m b →
-    StandsFor p (absent_in b.named) m (context_of b)
-unfolding local_of completed_of local_at completed_state
-stands_for p m b kept none at =
-    let named = absent_in b.named in
-    let pointers = pointers_are p named m b at kept.slots in
-    record {
-      is_image = kept.image;
-      image = at.image;
-      mode = sym (sym (mxm_kept b kept) ∙ mxm_seen p named m b at ∙ mode_stays p m.retired);
-      names = refl;
-      past = at.past;
-      drained = eqb-true m.done (transaction_count p m.retired) (all_done p named m b at none);
-      saved = record {
-        regs = registers_are p named m b at none;
-        epsr = kept.status ∙ ap₂ status_of (carry_seen p named m b at) (mxm_seen p named m b at);
-        sxip = ap slot_word pointers.xip;
-        snip = ap slot_word pointers.nip;
-        sfip = ap slot_word pointers.fip;
-      };
-      words = words_seen p named m b at;
-      absent = ap (λ (l : Local). l.absent) at.seen;
-      book = record {
-        retired = retired_at p named m b at;
-        done = done_at p named m b at;
-        events = events_at p named m b at;
-        answers = ap (λ (l : Local). l.answers) at.seen;
-        ended = ap (λ (l : Local). l.ended) at.seen;
-        out = ap (λ (l : Local). l.completed.out) at.seen;
-        records = records_at p named m b at;
-      };
-      small = kept.small;
-      counted = kept.counted;
-    }
+  -- and what is saved stands for it
+  pub stands_for : r.absent ≡ absent_in b.named → IsKept b → b.pending ≡ [] → StandsFor r m (context_of b)
+  unfolding local_of completed_of local_at completed_state
+  stands_for names kept none =
+      let pointers = pointers_are r m b at kept.slots in
+      record {
+        is_image = kept.image;
+        image = at.image;
+        mode = sym (sym (mxm_kept b kept) ∙ mxm_seen r m b at ∙ mode_stays r.program m.retired);
+        names = names;
+        limit = at.limit;
+        past = at.past;
+        drained = eqb-true m.done (transaction_count r.program m.retired) (all_done none);
+        saved = record {
+          regs = registers_are r m b at none;
+          epsr = kept.status ∙ ap₂ status_of (carry_seen r m b at) (mxm_seen r m b at);
+          sxip = ap slot_word pointers.xip;
+          snip = ap slot_word pointers.nip;
+          sfip = ap slot_word pointers.fip;
+        };
+        words = words_seen r m b at;
+        absent = ap (λ (l : Local). l.absent) at.seen;
+        book = record {
+          retired = retired_at r m b at;
+          done = done_at r m b at;
+          events = events_at r m b at;
+          answers = ap (λ (l : Local). l.answers) at.seen;
+          ended = ap (λ (l : Local). l.ended) at.seen;
+          out = ap (λ (l : Local). l.completed.out) at.seen;
+          records = records_at r m b at;
+        };
+        small = kept.small;
+        counted = kept.counted;
+      }
 
 -- the status that is saved is the program's own
 own_status : (ended : Bool) (c : ControlRegisters) →
@@ -101,6 +97,6 @@ saved_is b s regs ended left kept none values has enters saves =
     saves ∙ (λ i. record { regs = numbers i; epsr = status i; sxip = xip i; snip = nip i; sfip = fip i })
 
 -- before the first event nothing is pending
-pub empty_at_first : (p : Program) (named : ℕ → Bool) (b : BoardView) → IsAt p named opening_moment b → b.pending ≡ []
+pub empty_at_first : (r : Run) (b : BoardView) → IsAt r opening_moment b → b.pending ≡ []
 unfolding local_of local_at transactions
-empty_at_first p named b at = ap (λ (l : Local). l.pending) at.seen
+empty_at_first r b at = ap (λ (l : Local). l.pending) at.seen

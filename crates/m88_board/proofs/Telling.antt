@@ -1,18 +1,18 @@
 -- What an event of `i` tells of its instruction.
-use Rattle.std.specs.Prelude.{ℕ, Result, Ok, Err, IfOk, Bool, List, [], ◌∷◌, Option, ◌≡◌}
+use Rattle.std.specs.Prelude.{ℕ, Result, Ok, Err, IfOk, List, [], ◌∷◌, Option, ◌≡◌}
 use Rattle.std.proofs.Common.{sym, ap, ap₂, subst, ◌∙◌}
 use Rattle.m88_base.specs.Image.{byte_at}
 use Rattle.m88_base.specs.declared.failing.NoMemory.{NoMemory}
 use Rattle.m88_event.proofs.Laws.{same_situation}
 use Rattle.m88_event.specs.Choice.{Choice, choice_of, issues, said}
 use Rattle.m88_event.specs.Local.{Local, choice_by, local_at}
-use Rattle.m88_event.specs.Timeline.{Moment, choice_at}
+use Rattle.m88_event.specs.Timeline.{Moment, Run, choice_at}
 use Rattle.m88_event.specs.declared.happened.Happened.{Happened}
 use Rattle.m88_event.specs.declared.letter.Letter.TheVariants.{Issue}
 use Rattle.m88_event.specs.declared.record.Record.{Record}
 use Rattle.m88_isa.specs.Effect.{Change, recorded_change}
 use Rattle.m88_isa.specs.History.{completed_state}
-use Rattle.m88_isa.specs.Machine.{Program, Stop, four_bytes, state}
+use Rattle.m88_isa.specs.Machine.{Stop, four_bytes, state}
 use Rattle.m88_isa.specs.declared.planned.Access.{Access}
 use Rattle.m88_isa.specs.declared.planned.Effect.{Effect}
 use Rattle.m88_isa.specs.declared.planned.Plan.TheVariants.{Go}
@@ -46,32 +46,30 @@ change_told choice one other effect is same issued =
     let equal : one ≡ other = cc in
     ap Go (same ∙ ap recorded_change equal)
 
--- a board that stands at a moment makes its choice
-choice_seen : (p : Program) (named : ℕ → Bool) (m : Moment) (b : BoardView) → IsAt p named m b →
-    choice_by p b.limit Issue (local_of b) ≡ choice_at p named b.limit Issue m
-choice_seen p named m b at =
-    ap (λ (l : Local). choice_by p b.limit Issue l) at.seen
-    ∙ ap (choice_of p Issue) (same_situation p named b.limit m)
+module _ (r : Run) (m : Moment) (b : BoardView) (at : IsAt r m b) where
+  -- a board that stands at a moment makes its choice
+  choice_seen : choice_by r.program b.limit Issue (local_of b) ≡ choice_at r Issue m
+  choice_seen =
+      ap₂ (λ (n : ℕ) (l : Local). choice_by r.program n Issue l) at.limit at.seen
+      ∙ ap (choice_of r.program Issue) (same_situation r m)
 
--- and is to fetch the word there
-word_seen : (p : Program) (named : ℕ → Bool) (m : Moment) (b : BoardView) → IsAt p named m b →
-    four_bytes p.byte (state p m.retired).pc ≡ four_bytes (byte_at b.memory.image) (pc_of b.slots)
-unfolding local_of local_at completed_of completed_state
-word_seen p named m b at =
-    ap₂ (λ (byte : ℕ → Option ℕ) (a : ℕ). four_bytes byte a) at.image.bytes
-    (sym (ap (λ (l : Local). l.completed.pc) at.seen))
+  -- and is to fetch the word there
+  word_seen : four_bytes r.program.byte (state r.program m.retired).pc ≡ four_bytes (byte_at b.memory.image) (pc_of b.slots)
+  unfolding local_of local_at completed_of completed_state
+  word_seen =
+      ap₂ (λ (byte : ℕ → Option ℕ) (a : ℕ). four_bytes byte a) at.image.bytes
+      (sym (ap (λ (l : Local). l.completed.pc) at.seen))
 
--- so what its parts tell is what the moment tells
-pub told_at : (p : Program) (named : ℕ → Bool) (m : Moment) (b : BoardView) (h : Happened) (told : Told) →
-    IsAt p named m b →
-    (WentOn h → IsWordOf (four_bytes (byte_at b.memory.image) (pc_of b.slots)) told.word) →
-    ((change : Change) → choice_by p b.limit Issue (local_of b) ≡ issues change
-    → told.plan ≡ Go (recorded_change change)) →
-    IsTold p named b.limit m h told
-told_at p named m b h told at word plan = record {
-  word = λ went. ((word went).0, word_seen p named m b at ∙ (word went).1);
-  plan = λ change issued. plan change (choice_seen p named m b at ∙ issued);
-}
+  -- so what its parts tell is what the moment tells
+  pub told_at : (h : Happened) (told : Told) →
+      (WentOn h → IsWordOf (four_bytes (byte_at b.memory.image) (pc_of b.slots)) told.word) →
+      ((change : Change) → choice_by r.program b.limit Issue (local_of b) ≡ issues change
+      → told.plan ≡ Go (recorded_change change)) →
+      IsTold r m h told
+  told_at h told word plan = record {
+    word = λ went. ((word went).0, word_seen ∙ (word went).1);
+    plan = λ change issued. plan change (choice_seen ∙ issued);
+  }
 
 -- the word of the instruction, whatever comes of it
 pub word_told : (r : Result Brief NoMemory) (new : BoardView) (bytes : Option (List ℕ)) (word : ℕ) → IsWordOf bytes word →

@@ -1,5 +1,5 @@
 -- What the calls of a walk come to.
-use Rattle.std.specs.Prelude.{ℕ, Bool, List, Option, Result, OnErr, OnOk, ◌≡◌, ◌<◌, ◌+◌}
+use Rattle.std.specs.Prelude.{List, Option, Result, OnErr, OnOk, ◌≡◌, ◌<◌, ◌+◌}
 use Rattle.m88_base.specs.declared.failing.NoMemory.{NoMemory}
 use Rattle.m88_board.specs.Board.{local_of}
 use Rattle.m88_board.specs.Moves.{IsAt, IsSameRun, IsStep, MakesEvent}
@@ -7,9 +7,8 @@ use Rattle.m88_board.specs.declared.glance.Glance.{Glance}
 use Rattle.m88_board.specs.declared.walk.Walk.{Walk}
 use Rattle.m88_event.specs.Bound.{weight}
 use Rattle.m88_event.specs.Letters.{letter_at}
-use Rattle.m88_event.specs.Timeline.{Moment}
+use Rattle.m88_event.specs.Timeline.{Moment, Run}
 use Rattle.m88_event.specs.declared.happened.Happened.{Happened}
-use Rattle.m88_isa.specs.Machine.{Program}
 
 -- every call of a walk leaves it on its run: that of its board is the same, and so are the letters and whose board is
 -- lent
@@ -31,6 +30,6 @@ pub record TakesLetter {T : Type 0} (old new : Walk) (result : Result T NoMemory
 pub record MakesNext (old new : Walk) (before after : Option (List Glance)) (result : Result Happened NoMemory) :
     Type 0 where
   pub event : MakesEvent (letter_at old.schedule.now old.taken) old.board.now result new.board.now
-  pub ok : OnOk result ((p : Program) (named : ℕ → Bool) (m : Moment) → IsAt p named m old.board.now
-      → IsStep p named (letter_at old.schedule.now old.taken) m before after old.board.now new.board.now)
+  pub ok : OnOk result ((r : Run) (m : Moment) → IsAt r m old.board.now
+      → IsStep r (letter_at old.schedule.now old.taken) m before after new.board.now)
   pub takes : TakesLetter old new result

@@ -7,7 +7,7 @@ use Rattle.m88_base.specs.Slot.{slot_word}
 use Rattle.m88_ctrl.specs.ControlRegisters.{ControlRegisters, entered, mxm_of, mxm_place, returned}
 use Rattle.m88_event.specs.Past.{HasPast}
 use Rattle.m88_event.specs.Shadow.{fip_of, status_of}
-use Rattle.m88_event.specs.Timeline.{Moment, absent_at, end_at, nip_at, xip_at}
+use Rattle.m88_event.specs.Timeline.{Moment, Run, absent_at, end_at, nip_at, xip_at}
 use Rattle.m88_isa.specs.History.{bus_at, transaction_count}
 use Rattle.m88_isa.specs.ImageProgram.{IsProgramOf}
 use Rattle.m88_isa.specs.Machine.{Program, state}
@@ -43,29 +43,30 @@ pub record BooksAt (p : Program) (m : Moment) (b : Book) : Type 0 where
   pub out : b.out ≡ (state p m.retired).out
   pub records : b.records ≡ m.records
 
--- a context stands for a moment of a program: of one that the image in its memory holds, in the mode of its status,
+-- a context stands for a moment of a run: of a program that the image in its memory holds, in the mode of its status,
 -- with the pages that its book names and the book's limit, and with what lies behind each moment of a run. Each
 -- transaction of the instructions retired is done; the words that are saved and the book are those of the moment; its
 -- memory has the words after these transactions, and the pages are absent that are so then, however they came to be;
 -- and it is within the bounds of every board. Two moments with the same absent pages and all else the same are one to
 -- it.
-pub record StandsFor (p : Program) (named : ℕ → Bool) (m : Moment) (c : Context) : Type 0 where
+pub record StandsFor (r : Run) (m : Moment) (c : Context) : Type 0 where
   pub is_image : IsImage c.memory.image
-  pub image : IsProgramOf c.memory.image p
-  pub mode : p.mxm ≡ mxm_in c.saved.epsr
-  pub names : named ≡ absent_in c.book.absent
-  pub past : HasPast p c.book.limit m
-  pub drained : m.done ≡ transaction_count p m.retired
-  pub saved : SavesAt p m c.saved
-  pub words : bus_of c.memory ≡ bus_at p m.retired m.done
-  pub absent : absent_of c.memory ≡ absent_at named m
-  pub book : BooksAt p m c.book
+  pub image : IsProgramOf c.memory.image r.program
+  pub mode : r.program.mxm ≡ mxm_in c.saved.epsr
+  pub names : r.absent ≡ absent_in c.book.absent
+  pub limit : c.book.limit ≡ r.limit
+  pub past : HasPast r m
+  pub drained : m.done ≡ transaction_count r.program m.retired
+  pub saved : SavesAt r.program m c.saved
+  pub words : bus_of c.memory ≡ bus_at r.program m.retired m.done
+  pub absent : absent_of c.memory ≡ absent_at r m
+  pub book : BooksAt r.program m c.book
   pub small : c.book.limit ≤ most_retired
   pub counted : c.book.events ≤ most_events
 
--- a context stands for a moment of some program
+-- a context stands for a moment of some run
 abbrev pub StandsForSome : Context → Type 0
-StandsForSome c = (p : Program) × (named : ℕ → Bool) × (m : Moment) × StandsFor p named m c
+StandsForSome c = (r : Run) × (m : Moment) × StandsFor r m c
 
 -- the words of the program that a board runs, where nothing is pending: its registers, its own status, and the words of
 -- the instruction pointers

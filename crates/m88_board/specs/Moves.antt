@@ -1,12 +1,12 @@
 -- What an event makes of a board.
-use Rattle.std.specs.Prelude.{ℕ, Bool, List, [], ◌∷◌, Option, Some, Result, Ok, IfOk, OnErr, ◌≡◌, ◌≤◌, ◌+◌, ◌-◌, length}
+use Rattle.std.specs.Prelude.{ℕ, List, [], ◌∷◌, Option, Some, Result, Ok, IfOk, OnErr, ◌≡◌, ◌≤◌, ◌+◌, ◌-◌, length}
 use Rattle.m88_base.specs.Pages.{every_page}
 use Rattle.m88_base.specs.declared.failing.NoMemory.{NoMemory}
 use Rattle.m88_ctrl.specs.ControlRegisters.{mxm_of}
 use Rattle.m88_event.specs.Choice.{ServesOrEnds}
 use Rattle.m88_event.specs.Local.{local_at, move, said_by}
 use Rattle.m88_event.specs.Past.{HasPast}
-use Rattle.m88_event.specs.Timeline.{DoneWereMade, Moment, after_letter, said_at}
+use Rattle.m88_event.specs.Timeline.{DoneWereMade, Moment, Run, after_letter, said_at}
 use Rattle.m88_event.specs.declared.happened.End.{End}
 use Rattle.m88_event.specs.declared.happened.Happened.{Happened}
 use Rattle.m88_event.specs.declared.happened.Happened.TheVariants as happened
@@ -36,25 +36,26 @@ pub record IsMove (p : Program) (letter : Letter) (old : BoardView) (happened : 
   pub moved : local_of new ≡ move p old.limit letter (local_of old)
   pub same : IsSameRun old new
 
--- a board stands at a moment of a program that its image holds, with what lies behind each moment of a run
-pub record IsAt (p : Program) (named : ℕ → Bool) (m : Moment) (b : BoardView) : Type 0 where
-  pub image : IsProgramOf b.memory.image p
-  pub within : DoneWereMade p m
-  pub past : HasPast p b.limit m
-  pub seen : local_of b ≡ local_at p named m
+-- a board stands at a moment of a run, of a program that its image holds and with its limit, and with what lies behind
+-- each moment of a run
+pub record IsAt (r : Run) (m : Moment) (b : BoardView) : Type 0 where
+  pub image : IsProgramOf b.memory.image r.program
+  pub limit : b.limit ≡ r.limit
+  pub within : DoneWereMade r.program m
+  pub past : HasPast r m
+  pub seen : local_of b ≡ local_at r m
 
 -- a board made the event of a letter at a moment, and was shown
-pub record IsStep (p : Program) (named : ℕ → Bool) (letter : Letter) (m : Moment) (before after : Option (List Glance))
-    (old new : BoardView) : Type 0 where
-  pub at : IsAt p named (after_letter p named old.limit letter m) new
-  pub limit : new.limit ≡ old.limit
-  pub saw : Saw before after (glance_at p (after_letter p named old.limit letter m) ∷ [])
+pub record IsStep (r : Run) (letter : Letter) (m : Moment) (before after : Option (List Glance)) (new : BoardView)
+    : Type 0 where
+  pub at : IsAt r (after_letter r letter m) new
+  pub saw : Saw before after (glance_at r.program (after_letter r letter m) ∷ [])
 
 -- a board went along moments, from the first to the last of so many more, and was shown at each of these
-pub record IsAlong (p : Program) (named : ℕ → Bool) (moments : ℕ → Moment) (events : ℕ)
-    (before after : Option (List Glance)) (b : BoardView) : Type 0 where
-  pub at : IsAt p named (moments events) b
-  pub saw : Saw before after (glances_along p moments events)
+pub record IsAlong (r : Run) (moments : ℕ → Moment) (events : ℕ) (before after : Option (List Glance)) (b : BoardView)
+    : Type 0 where
+  pub at : IsAt r (moments events) b
+  pub saw : Saw before after (glances_along r.program moments events)
 
 -- every page is absent, and nothing else changed but the count of events: the words and the pages that are ready stay
 pub record IsEvicted (old new : BoardView) : Type 0 where
@@ -83,10 +84,8 @@ end_after _ before = before
 -- to hold
 pub record Happens (letter : Letter) (old : BoardView) (happened : Happened) (new : BoardView) : Type 0 where
   pub moved : (p : Program) → IsProgramOf old.memory.image p → IsMove p letter old happened new
-  pub timeline : (p : Program) (named : ℕ → Bool) (m : Moment) → IsAt p named m old
-      → IsAt p named (after_letter p named old.limit letter m) new
-  pub said : (p : Program) (named : ℕ → Bool) (m : Moment) → IsAt p named m old
-      → happened ≡ said_at p named old.limit letter m
+  pub timeline : (r : Run) (m : Moment) → IsAt r m old → IsAt r (after_letter r letter m) new
+  pub said : (r : Run) (m : Moment) → IsAt r m old → happened ≡ said_at r letter m
   pub precise : ServesOrEnds happened → old.pending ≡ []
   pub ended : new.ended ≡ end_after happened old.ended
   pub counted : new.events ≡ old.events + 1

@@ -1,12 +1,12 @@
 -- What the parts of a board show at a moment of the timeline.
-use Rattle.std.specs.Prelude.{ℕ, Bool, false, not, List, [], ◌∷◌, ◌≡◌, map, slice_index, if◌then◌else◌}
+use Rattle.std.specs.Prelude.{ℕ, false, not, List, [], ◌∷◌, ◌≡◌, map, slice_index, if◌then◌else◌}
 use Rattle.m88_base.specs.RegisterSet.{register_bits}
 use Rattle.m88_base.specs.Slot.{slot_word}
 use Rattle.m88_base.specs.Triple.{no_triple}
 use Rattle.m88_ctrl.specs.ControlRegisters.{ControlRegisters, carry_of, entered, returned, triples_by_age}
 use Rattle.m88_ctrl.specs.declared.frame.Frame.{Frame}
 use Rattle.m88_event.specs.Shadow.{fip_of, status_of}
-use Rattle.m88_event.specs.Timeline.{Moment, absent_at, end_at, nip_at, xip_at}
+use Rattle.m88_event.specs.Timeline.{Moment, Run, absent_at, end_at, nip_at, xip_at}
 use Rattle.m88_event.specs.declared.happened.Happened.{Happened}
 use Rattle.m88_event.specs.declared.happened.Happened.TheVariants as happened
 use Rattle.m88_event.specs.declared.record.Record.{Record}
@@ -36,11 +36,11 @@ pub record AreRegisters (p : Program) (m : Moment) (file : Registers) : Type 0 w
 
 -- memory: the image, the words after the transactions that are done, the absent pages, and the page of each pending
 -- store ready
-pub record IsDataBus (p : Program) (named : ℕ → Bool) (m : Moment) (memory : MemoryView) : Type 0 where
-  pub image : IsProgramOf memory.image p
-  pub words : bus_of memory ≡ bus_at p m.retired m.done
-  pub absent : absent_of memory ≡ absent_at named m
-  pub ready : AreReady (ready_of memory) (pending_at p m.retired m.done)
+pub record IsDataBus (r : Run) (m : Moment) (memory : MemoryView) : Type 0 where
+  pub image : IsProgramOf memory.image r.program
+  pub words : bus_of memory ≡ bus_at r.program m.retired m.done
+  pub absent : absent_of memory ≡ absent_at r m
+  pub ready : AreReady (ready_of memory) (pending_at r.program m.retired m.done)
 
 -- a record has the status, the registers that wait and the triples of the pending transactions
 pub record IsRecordOf (fault : Record) (pending : List Access) (control : ControlRegisters) : Type 0 where

@@ -4,7 +4,7 @@ use Rattle.std.specs.List.{list_any}
 use Rattle.m88_event.specs.Bound.{weight}
 use Rattle.m88_event.specs.Letters.{most_letters}
 use Rattle.m88_event.specs.Run.{letters_from, moment_along}
-use Rattle.m88_event.specs.Timeline.{Moment, is_over, nip_at}
+use Rattle.m88_event.specs.Timeline.{Moment, Run, is_over, nip_at}
 use Rattle.m88_event.specs.declared.letter.Letter.{Letter}
 use Rattle.m88_isa.specs.Machine.{Program}
 use Rattle.m88_board.specs.Board.{BoardView, local_of}
@@ -35,15 +35,13 @@ is_enough (Made most) = is_made most
 is_enough (Breakpoint addresses) = is_halt addresses.now
 
 -- the moments of a walk from a moment on, along the letters of a run behind those that are taken
-abbrev pub moments_from : Program → (ℕ → Bool) → ℕ → List Letter → ℕ → Moment → ℕ → Moment
-moments_from p named limit schedule taken = moment_along p named limit (letters_from schedule taken)
+abbrev pub moments_from : Run → ℕ → Moment → ℕ → Moment
+moments_from r taken = moment_along r (letters_from r.schedule taken)
 
 -- whether it stops after so many events: it is to go no further, or the run is over
-abbrev pub stops_after :
-    (Program → ℕ → Moment → Bool) → Program → (ℕ → Bool) → ℕ → List Letter → ℕ → Moment → ℕ → Bool
-stops_after enough p named limit schedule taken m k =
-    enough p k (moments_from p named limit schedule taken m k)
-    || is_over p limit (moments_from p named limit schedule taken m k)
+abbrev pub stops_after : (Program → ℕ → Moment → Bool) → Run → ℕ → Moment → ℕ → Bool
+stops_after enough r taken m k =
+    enough r.program k (moments_from r taken m k) || is_over r (moments_from r taken m k)
 
 -- the most events of a run
 abbrev pub most_events_of : List Letter → ℕ → ℕ

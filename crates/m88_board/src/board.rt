@@ -1,6 +1,6 @@
 //! The board: its parts, and what a choice makes of them.
 
-ghost use Rattle.std.specs.Prelude.{ℕ, Ok, Bool, option_map, ◌≡◌, ◌<◌, ◌≤◌, ◌+◌, ◌-◌, ◌*◌, [], Option, Some, None, false, is_some, slice_get, IfOk, OnErr, OnOk};
+ghost use Rattle.std.specs.Prelude.{ℕ, Ok, List, option_map, ◌≡◌, ◌<◌, ◌≤◌, ◌+◌, ◌-◌, ◌*◌, [], Option, Some, None, false, is_some, slice_get, IfOk, OnErr, OnOk};
 ghost use Rattle.m88_base.specs.Image.{IsImage};
 ghost use Rattle.m88_base.specs.Pages.{page_number};
 ghost use Rattle.m88_base.specs.Reg.{number_of};
@@ -8,7 +8,7 @@ ghost use Rattle.m88_base.specs.Slot.{slot_word};
 ghost use Rattle.m88_ctrl.specs.ControlRegisters.{at_start};
 ghost use Rattle.m88_event.specs.Choice.{answer_choice, evicts, faults, finishes, serves, turn_choice};
 ghost use Rattle.m88_event.specs.Local.{record_by};
-ghost use Rattle.m88_event.specs.Timeline.{Moment, opening_moment, record_at};
+ghost use Rattle.m88_event.specs.Timeline.{Moment, Run, opening_moment, record_at, run_with};
 ghost use Rattle.m88_board.specs.declared.brief.Brief.{Brief as BriefValue};
 ghost use Rattle.m88_event.specs.declared.letter.Letter.{Letter as LetterValue};
 ghost use Rattle.m88_mem.specs.DataBus.{absent_of};
@@ -112,8 +112,9 @@ impl Board {
         ensures begun { IfOk result (λ b. b.begun ≡ false) }
         ensures is_image { IsImage image.now }
         ensures program { (p : Program) × IsProgramOf image.now p × (p.mxm ≡ mxm) }
-        ensures at { IfOk result (λ b. (p : Program) → IsProgramOf image.now p → p.mxm ≡ mxm
-            → IsAt p (absent_in absent.now) opening_moment b) }
+        ensures at { IfOk result (λ b. (p : Program) (schedule : List LetterValue)
+            → IsProgramOf image.now p → p.mxm ≡ mxm
+            → IsAt (run_with p (absent_in absent.now) limit schedule) opening_moment b) }
     {
         // What always holds of an image is told with its parts.
         prove!(image.part_count() <= image.len());
@@ -153,8 +154,8 @@ impl Board {
     pub fn pipe(&self) -> Record
         ensures value { (p : Program) → IsProgramOf self.now.memory.image p
             → result ≡ record_by p self.now.limit (local_of self.now) }
-        ensures moment { (p : Program) (named : ℕ → Bool) (m : Moment) → IsAt p named m self.now
-            → result ≡ record_at p named self.now.limit m }
+        ensures moment { (r : Run) (m : Moment) → IsAt r m self.now
+            → result ≡ record_at r m }
         ensures sxip { result.sxip ≡ slot_word self.now.slots.xip }
         ensures snip { result.snip ≡ slot_word self.now.slots.nip }
         ensures sfip { result.sfip ≡ slot_word self.now.slots.fip }

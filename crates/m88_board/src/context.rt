@@ -1,9 +1,10 @@
 //! Programs that aren't running.
 
-ghost use Rattle.std.specs.Prelude.{ℕ, Bool, ◌≡◌, ◌≤◌, true, IfOk};
+ghost use Rattle.std.specs.Prelude.{List, ◌≡◌, ◌≤◌, true, IfOk};
 ghost use Rattle.m88_base.specs.Image.{IsImage};
 ghost use Rattle.m88_event.specs.Run.{outcome_at};
-ghost use Rattle.m88_event.specs.Timeline.{Moment, is_over, opening_moment};
+ghost use Rattle.m88_event.specs.Timeline.{Moment, Run, is_over, opening_moment, run_with};
+ghost use Rattle.m88_event.specs.declared.letter.Letter.{Letter as LetterValue};
 ghost use Rattle.m88_isa.specs.ImageProgram.{IsProgramOf};
 ghost use Rattle.m88_isa.specs.Machine.{Program};
 ghost use Rattle.m88_mem.specs.Marks.{NamesPages, absent_in};
@@ -68,8 +69,9 @@ impl Context {
         ensures events { IfOk result (λ c. c.book.events ≡ 0) }
         ensures is_image { IsImage image.now }
         ensures program { (p : Program) × IsProgramOf image.now p × (p.mxm ≡ mxm) }
-        ensures stands { IfOk result (λ c. (p : Program) → IsProgramOf image.now p → p.mxm ≡ mxm
-            → StandsFor p (absent_in absent.now) opening_moment c) }
+        ensures stands { IfOk result (λ c. (p : Program) (schedule : List LetterValue)
+            → IsProgramOf image.now p → p.mxm ≡ mxm
+            → StandsFor (run_with p (absent_in absent.now) limit schedule) opening_moment c) }
     {
         let board = Board::new(alloc, image, absent, limit, mxm)?;
         Ok(board.into_context())
@@ -78,9 +80,9 @@ impl Context {
     /// What a run came to that is over. Where memory runs out, the context is gone.
     pub fn outcome(self) -> Result<Outcome, NoMemory>
         ensures events { IfOk result (λ o. o.events ≡ self.book.events) }
-        ensures moment { IfOk result (λ o. (p : Program) (named : ℕ → Bool) (m : Moment)
-            → StandsFor p named m self → is_over p self.book.limit m ≡ true
-            → o ≡ outcome_at p m) }
+        ensures moment { IfOk result (λ o. (r : Run) (m : Moment)
+            → StandsFor r m self → is_over r m ≡ true
+            → o ≡ outcome_at r.program m) }
     {
         let saved = self.saved;
         let carry = (saved.epsr >> 28) % 2 == 1;

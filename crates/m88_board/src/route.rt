@@ -1,7 +1,7 @@
 //! Routes: which letters a board makes the events of, and when it stops.
 
 ghost use Rattle.std.specs.Prelude.{ℕ, Bool, [], ◌≡◌, ◌≤◌, ◌+◌, false, is_none, IfNone, IfSome};
-ghost use Rattle.m88_event.specs.Timeline.{Moment};
+ghost use Rattle.m88_event.specs.Timeline.{Moment, Run};
 ghost use Rattle.m88_isa.specs.Machine.{Program};
 ghost use Rattle.m88_board.specs.Inside.Routes.{has_to_rest, letters_by, stops_at_moment, taken_before};
 ghost use Rattle.m88_board.specs.Kept.{most_events};
@@ -35,8 +35,8 @@ impl<'a> Route<'a> {
         ensures going { IfSome result (λ letter. has_to_rest self.entry board.now ≡ false) }
         ensures answered { self.entry ≡ RouteValue.Answers
             → IfNone result (board.now.pending ≡ []) }
-        ensures moment { (p : Program) (named : ℕ → Bool) (m : Moment) → IsAt p named m board.now
-            → is_none result ≡ stops_at_moment self.entry p board.now.limit made m }
+        ensures moment { (r : Run) (m : Moment) → IsAt r m board.now
+            → is_none result ≡ stops_at_moment self.entry r made m }
     {
         match self {
             Route::Run {

@@ -2,7 +2,7 @@
 
 ghost use Rattle.std.specs.Prelude.{ℕ, Bool, ◌≡◌, ◌==◌};
 ghost use Rattle.std.specs.List.{list_any};
-ghost use Rattle.m88_event.specs.Timeline.{Moment};
+ghost use Rattle.m88_event.specs.Timeline.{Moment, Run};
 ghost use Rattle.m88_isa.specs.Machine.{Program};
 ghost use Rattle.m88_board.specs.Moves.{IsAt};
 ghost use Rattle.m88_board.specs.Walks.{is_at_breakpoint, is_enough};
@@ -23,8 +23,8 @@ pub enum Until<'a> {
 impl<'a> Until<'a> {
     /// Whether a walk is to go no further after so many events.
     pub(crate) fn is_enough(self, board: &Board, made: u64) -> bool
-        ensures { (p : Program) (named : ℕ → Bool) (m : Moment) → IsAt p named m board.now
-            → result ≡ is_enough self.entry p made m }
+        ensures { (r : Run) (m : Moment) → IsAt r m board.now
+            → result ≡ is_enough self.entry r.program made m }
     {
         match self {
             Until::Over => false,
@@ -36,8 +36,8 @@ impl<'a> Until<'a> {
 
 /// Whether the next instruction stands at one of some byte addresses.
 fn is_at(board: &Board, addresses: &[u32]) -> bool
-    ensures { (p : Program) (named : ℕ → Bool) (m : Moment) → IsAt p named m board.now
-        → result ≡ is_at_breakpoint p addresses.now m }
+    ensures { (r : Run) (m : Moment) → IsAt r m board.now
+        → result ≡ is_at_breakpoint r.program addresses.now m }
 {
     let next = board.next_slot();
     next.v && is_among(addresses, next.addr)

@@ -1,10 +1,10 @@
 -- What the event of a letter brings, and what it tells of its instruction.
-use Rattle.std.specs.Prelude.{ℕ, List, Option, Bool, true, Result, Ok, Err, IfOk, ◌≡◌}
+use Rattle.std.specs.Prelude.{List, Option, true, Result, Ok, Err, IfOk, ◌≡◌}
 use Rattle.m88_base.specs.Image.{byte_at}
 use Rattle.m88_base.specs.declared.failing.NoMemory.{NoMemory}
 use Rattle.m88_event.specs.Choice.{Choice, issues, said}
 use Rattle.m88_event.specs.Local.{choice_by, move_by, record_by}
-use Rattle.m88_event.specs.Timeline.{Moment}
+use Rattle.m88_event.specs.Timeline.{Moment, Run}
 use Rattle.m88_event.specs.declared.happened.Happened.{Happened}
 use Rattle.m88_event.specs.declared.letter.Letter.{Letter}
 use Rattle.m88_event.specs.declared.letter.Letter.TheVariants.{Issue}
@@ -74,8 +74,7 @@ pub record TellsInstruction (old : BoardView) (before : Told) (result : Result B
 pub record HappensShown (letter : Letter) (old : BoardView) (before after : Option (List Glance)) (brief : Brief)
     (new : BoardView) : Type 0 where
   pub happens : Happens letter old (happened_of brief new) new
-  pub ok : (p : Program) (named : ℕ → Bool) (m : Moment) → IsAt p named m old
-      → IsStep p named letter m before after old new
+  pub ok : (r : Run) (m : Moment) → IsAt r m old → IsStep r letter m before after new
 
 -- the event is made, counted and shown, or memory ran out and all is as before
 abbrev pub ShownOrStays : Letter → BoardView → Option (List Glance) → Option (List Glance) → Result Brief NoMemory →
@@ -87,6 +86,6 @@ ShownOrStays letter old before after (Err e) new = new ≡ old
 -- of words if none were told before
 pub record TellsEvent (letter : Letter) (old : BoardView) (before : Told) (result : Result Brief NoMemory)
     (new : BoardView) (told : Told) : Type 0 where
-  pub told_at : letter ≡ Issue → before.asked ≡ true → IfOk result (λ brief. (p : Program) (named : ℕ → Bool)
-      (m : Moment) → IsAt p named m old → IsTold p named old.limit m (happened_of brief new) told)
+  pub told_at : letter ≡ Issue → before.asked ≡ true → IfOk result (λ brief. (r : Run) (m : Moment)
+      → IsAt r m old → IsTold r m (happened_of brief new) told)
   pub made : MakesWordAccesses before.plan → MakesWordAccesses told.plan

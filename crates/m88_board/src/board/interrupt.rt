@@ -2,7 +2,7 @@
 
 ghost use Rattle.std.specs.Prelude.{ℕ, Bool, [], ◌≡◌, ◌<◌, ◌↔◌, false, true, length, IfErr, IfOk, IsErr, IsOk, OnErr, OnOk};
 ghost use Rattle.m88_event.specs.Local.{record_by};
-ghost use Rattle.m88_event.specs.Timeline.{Moment, is_drained, record_at};
+ghost use Rattle.m88_event.specs.Timeline.{Moment, Run, is_drained, record_at};
 ghost use Rattle.m88_isa.specs.ImageProgram.{IsProgramOf};
 ghost use Rattle.m88_isa.specs.Machine.{Program};
 ghost use Rattle.m88_mem.specs.Marks.{absent_in};
@@ -35,11 +35,10 @@ impl Board {
         ensures other_same { OnErr result (other.new ≡ other.old) }
 
         // The board stands where the context stood, and the context stands where the board was.
-        ensures resumed { OnOk result ((p : Program) (named : ℕ → Bool) (m : Moment)
-            → StandsFor p named m other.old → IsAt p named m self.new) }
-        ensures suspended { OnOk result ((p : Program) (m : Moment)
-            → IsAt p (absent_in self.old.named) m self.old
-            → StandsFor p (absent_in self.old.named) m other.new) }
+        ensures resumed { OnOk result ((r : Run) (m : Moment)
+            → StandsFor r m other.old → IsAt r m self.new) }
+        ensures suspended { OnOk result ((r : Run) (m : Moment)
+            → r.absent ≡ absent_in self.old.named → IsAt r m self.old → StandsFor r m other.new) }
 
         // The same by the words themselves: those of the program that runs now are the context's, those of the context
         // are the program's that ran, and nothing is pending.
@@ -57,10 +56,10 @@ impl Board {
         // The record is that of the moment before.
         ensures record { IfOk result (λ fault. (p : Program) → IsProgramOf self.old.memory.image p
             → fault ≡ record_by p self.old.limit (local_of self.old)) }
-        ensures moment { IfOk result (λ fault. (p : Program) (named : ℕ → Bool) (m : Moment)
-            → IsAt p named m self.old → fault ≡ record_at p named self.old.limit m) }
-        ensures drained { (p : Program) (named : ℕ → Bool) (m : Moment) → IsAt p named m self.old
-            → IsOk result ↔ (is_drained p m ≡ true) }
+        ensures moment { IfOk result (λ fault. (r : Run) (m : Moment)
+            → IsAt r m self.old → fault ≡ record_at r m) }
+        ensures drained { (r : Run) (m : Moment) → IsAt r m self.old
+            → IsOk result ↔ (is_drained r.program m ≡ true) }
         ensures kept { OnOk result (IsKept self.new) }
     {
         if self.is_pending() {
@@ -86,8 +85,8 @@ impl Board {
         requires { self.pending ≡ [] }
         ensures value { result ≡ context_of self }
         ensures run { IsRunOf result self }
-        ensures stands { (p : Program) (m : Moment) → IsAt p (absent_in self.named) m self
-            → StandsFor p (absent_in self.named) m result }
+        ensures stands { (r : Run) (m : Moment) → r.absent ≡ absent_in self.named → IsAt r m self
+            → StandsFor r m result }
     {
         let regs = self.regs.values();
         let epsr = self.status();

@@ -6,7 +6,7 @@ ghost use Rattle.m88_base.specs.Image.{byte_at};
 ghost use Rattle.m88_base.specs.Reg.{number_of};
 ghost use Rattle.m88_ctrl.specs.ControlRegisters.{carry_of};
 ghost use Rattle.m88_event.specs.Local.{is_over_by, register_seen, register_shown};
-ghost use Rattle.m88_event.specs.Timeline.{Moment, is_drained, is_over, nip_at};
+ghost use Rattle.m88_event.specs.Timeline.{Moment, Run, is_drained, is_over, nip_at};
 ghost use Rattle.m88_isa.specs.Bus.{in_words};
 ghost use Rattle.m88_isa.specs.History.{bus_at, pending_at};
 ghost use Rattle.m88_isa.specs.ImageProgram.{IsProgramOf};
@@ -29,8 +29,8 @@ impl Board {
     /// Whether a run is over: nothing is pending, and the program has ended or the limit is reached.
     pub fn is_over(&self) -> bool
         ensures value { result ≡ is_over_by self.now.limit (local_of self.now) }
-        ensures moment { (p : Program) (named : ℕ → Bool) (m : Moment) → IsAt p named m self.now
-            → result ≡ is_over p self.now.limit m }
+        ensures moment { (r : Run) (m : Moment) → IsAt r m self.now
+            → result ≡ is_over r m }
     {
         !self.is_pending() && self.is_idle()
     }
@@ -38,7 +38,7 @@ impl Board {
     /// The events so far.
     pub fn events(&self) -> u64
         ensures value { result ≡ self.now.events }
-        ensures moment { (p : Program) (named : ℕ → Bool) (m : Moment) → IsAt p named m self.now
+        ensures moment { (r : Run) (m : Moment) → IsAt r m self.now
             → result ≡ m.events }
         ensures kept { IsKept self.now }
     {
@@ -48,7 +48,7 @@ impl Board {
     /// The instructions that were retired.
     pub fn issued(&self) -> u32
         ensures value { result ≡ self.now.retired }
-        ensures moment { (p : Program) (named : ℕ → Bool) (m : Moment) → IsAt p named m self.now
+        ensures moment { (r : Run) (m : Moment) → IsAt r m self.now
             → result ≡ m.retired }
     {
         self.book.retired
@@ -57,7 +57,7 @@ impl Board {
     /// The transactions that were answered or finished.
     pub fn done(&self) -> u32
         ensures value { result ≡ self.now.done }
-        ensures moment { (p : Program) (named : ℕ → Bool) (m : Moment) → IsAt p named m self.now
+        ensures moment { (r : Run) (m : Moment) → IsAt r m self.now
             → result ≡ m.done }
     {
         self.book.done
@@ -66,7 +66,7 @@ impl Board {
     /// The records of data faults so far.
     pub fn faults(&self) -> u32
         ensures value { result ≡ length self.now.records }
-        ensures moment { (p : Program) (named : ℕ → Bool) (m : Moment) → IsAt p named m self.now
+        ensures moment { (r : Run) (m : Moment) → IsAt r m self.now
             → result ≡ length m.records }
     {
         self.book.records.as_slice().len() as u32
@@ -75,8 +75,8 @@ impl Board {
     /// The transactions that are pending, at most three.
     pub fn pending(&self) -> u8
         ensures value { result ≡ length self.now.pending }
-        ensures moment { (p : Program) (named : ℕ → Bool) (m : Moment) → IsAt p named m self.now
-            → result ≡ length (pending_at p m.retired m.done) }
+        ensures moment { (r : Run) (m : Moment) → IsAt r m self.now
+            → result ≡ length (pending_at r.program m.retired m.done) }
     {
         MOST_PENDING as u8 - self.dunit.room()
     }
@@ -84,8 +84,8 @@ impl Board {
     /// NIP.
     pub fn next_slot(&self) -> Slot
         ensures value { result ≡ self.now.slots.nip }
-        ensures moment { (p : Program) (named : ℕ → Bool) (m : Moment) → IsAt p named m self.now
-            → result ≡ nip_at p m }
+        ensures moment { (r : Run) (m : Moment) → IsAt r m self.now
+            → result ≡ nip_at r.program m }
     {
         self.iunit.candidate()
     }
@@ -94,8 +94,8 @@ impl Board {
     pub fn register(&self, r: Reg) -> Option<u32>
         ensures value { result
             ≡ register_seen self.now.pending (completed_of self.now).regs (number_of r) }
-        ensures moment { (p : Program) (named : ℕ → Bool) (m : Moment) → IsAt p named m self.now
-            → result ≡ register_shown p m (number_of r) }
+        ensures moment { (run : Run) (m : Moment) → IsAt run m self.now
+            → result ≡ register_shown run.program m (number_of r) }
     {
         self.regs.get(r).ok()
     }
@@ -103,8 +103,8 @@ impl Board {
     /// The carry.
     pub fn carry(&self) -> bool
         ensures value { result ≡ carry_of self.now.control }
-        ensures moment { (p : Program) (named : ℕ → Bool) (m : Moment) → IsAt p named m self.now
-            → result ≡ (state p m.retired).carry }
+        ensures moment { (r : Run) (m : Moment) → IsAt r m self.now
+            → result ≡ (state r.program m.retired).carry }
     {
         self.ctrl.carry()
     }
@@ -113,11 +113,11 @@ impl Board {
     pub fn word(&self, addr: u32) -> u32
         requires { addr % 4 ≡ 0 }
         ensures value { result ≡ bus_of self.now.memory addr }
-        ensures moment { (p : Program) (named : ℕ → Bool) (m : Moment) → IsAt p named m self.now
-            → result ≡ bus_at p m.retired m.done addr }
-        ensures drained { (p : Program) (named : ℕ → Bool) (m : Moment) → IsAt p named m self.now
-            → is_drained p m ≡ true
-            → result ≡ in_words (state p m.retired).memory addr }
+        ensures moment { (r : Run) (m : Moment) → IsAt r m self.now
+            → result ≡ bus_at r.program m.retired m.done addr }
+        ensures drained { (r : Run) (m : Moment) → IsAt r m self.now
+            → is_drained r.program m ≡ true
+            → result ≡ in_words (state r.program m.retired).memory addr }
     {
         self.memory.word(addr)
     }
@@ -128,8 +128,8 @@ impl Board {
         requires { addr % 4 ≡ 0 }
         ensures value { option_map (λ word. to_be_bytes w32 word) result
             ≡ four_bytes (byte_at self.now.memory.image) addr }
-        ensures moment { (p : Program) (named : ℕ → Bool) (m : Moment) → IsAt p named m self.now
-            → option_map (λ word. to_be_bytes w32 word) result ≡ four_bytes p.byte addr }
+        ensures moment { (r : Run) (m : Moment) → IsAt r m self.now
+            → option_map (λ word. to_be_bytes w32 word) result ≡ four_bytes r.program.byte addr }
     {
         self.memory.fetch(addr)
     }
@@ -137,8 +137,8 @@ impl Board {
     /// The instruction pointers.
     pub fn iunit(&self) -> &InstrUnit
         ensures value { result.now ≡ self.now.slots }
-        ensures moment { (p : Program) (named : ℕ → Bool) (m : Moment) → IsAt p named m self.now
-            → ArePointers p m result.now }
+        ensures moment { (r : Run) (m : Moment) → IsAt r m self.now
+            → ArePointers r.program m result.now }
     {
         &self.iunit
     }
@@ -146,8 +146,8 @@ impl Board {
     /// The pending transactions.
     pub fn dunit(&self) -> &DataUnit
         ensures value { result.now ≡ self.now.pending }
-        ensures moment { (p : Program) (named : ℕ → Bool) (m : Moment) → IsAt p named m self.now
-            → result.now ≡ pending_at p m.retired m.done }
+        ensures moment { (r : Run) (m : Moment) → IsAt r m self.now
+            → result.now ≡ pending_at r.program m.retired m.done }
     {
         &self.dunit
     }
@@ -155,8 +155,8 @@ impl Board {
     /// The registers, and which of them wait.
     pub fn regfile(&self) -> &RegFile
         ensures value { result.now ≡ self.now.file }
-        ensures moment { (p : Program) (named : ℕ → Bool) (m : Moment) → IsAt p named m self.now
-            → AreRegisters p m result.now }
+        ensures moment { (r : Run) (m : Moment) → IsAt r m self.now
+            → AreRegisters r.program m result.now }
     {
         &self.regs
     }
@@ -164,8 +164,8 @@ impl Board {
     /// Memory, which holds the image.
     pub fn memory(&self) -> &Memory
         ensures value { result.now ≡ self.now.memory }
-        ensures moment { (p : Program) (named : ℕ → Bool) (m : Moment) → IsAt p named m self.now
-            → IsDataBus p named m result.now }
+        ensures moment { (r : Run) (m : Moment) → IsAt r m self.now
+            → IsDataBus r m result.now }
         ensures program { (p : Program) × IsProgramOf result.now.image p }
     {
         &self.memory
@@ -174,8 +174,8 @@ impl Board {
     /// The control registers.
     pub fn ctrl(&self) -> &Control
         ensures value { result.now ≡ self.now.control }
-        ensures moment { (p : Program) (named : ℕ → Bool) (m : Moment) → IsAt p named m self.now
-            → IsStatus p m result.now }
+        ensures moment { (r : Run) (m : Moment) → IsAt r m self.now
+            → IsStatus r.program m result.now }
     {
         &self.ctrl
     }

@@ -2,7 +2,7 @@
 
 ghost use Rattle.std.specs.Prelude.{ℕ, Bool, [], ◌↔◌, ◌≡◌, ◌<◌, ◌≤◌, ◌+◌, ◌-◌, ◌*◌, true, length, IfOk, OnErr, OnOk};
 ghost use Rattle.m88_event.specs.Run.{IsDrain, IsDraining, IsFirst, IsOutcome, IsRunning, NotBefore, answered_after, moment_after, outcome_at, outcome_by};
-ghost use Rattle.m88_event.specs.Timeline.{Moment, is_over, opening_moment};
+ghost use Rattle.m88_event.specs.Timeline.{Moment, Run, is_over, opening_moment};
 ghost use Rattle.m88_event.specs.declared.happened.End.{End as EndValue};
 ghost use Rattle.m88_event.specs.declared.outcome.Outcome.{Outcome as OutcomeValue};
 ghost use Rattle.m88_isa.specs.Bus.{in_words};
@@ -34,29 +34,26 @@ impl Board {
     /// memory runs out, the board is gone.
     pub fn run<W: Watch>(mut self, schedule: &Schedule, watch: &mut W) -> Result<Outcome, NoMemory>
         requires { self.events ≡ 0 }
-        ensures outcome { IfOk result (λ o. (p : Program) (named : ℕ → Bool)
-            → IsAt p named opening_moment self → IsOutcome p named self.limit schedule.now o) }
-        ensures only { (p : Program) (named : ℕ → Bool) (o other : OutcomeValue)
-            → IsOutcome p named self.limit schedule.now o
-            → IsOutcome p named self.limit schedule.now other
+        ensures outcome { IfOk result (λ o. (r : Run) → r.schedule ≡ schedule.now
+            → IsAt r opening_moment self → IsOutcome r o) }
+        ensures only { (r : Run) (o other : OutcomeValue) → IsOutcome r o → IsOutcome r other
             → o ≡ other }
-        ensures limit_end { IfOk result (λ o. (p : Program) (named : ℕ → Bool)
-            → IsAt p named opening_moment self
+        ensures limit_end { IfOk result (λ o. (r : Run) → IsAt r opening_moment self
             → (o.end ≡ EndValue.Limit) ↔ (o.retired ≡ self.limit)) }
         ensures within { IfOk result (λ o. o.events ≤ length schedule.now + 8 * self.limit + 8) }
 
         // Once all transactions of some instructions are done, memory is that of the history.
         ensures words { (p : Program) (n : ℕ) → IsProgram p
             → bus_at p n (transaction_count p n) ≡ in_words (state p n).memory }
-        ensures watched { IfOk result (λ o. (p : Program) (named : ℕ → Bool)
-            → IsAt p named opening_moment self
+        ensures watched { IfOk result (λ o. (r : Run) → r.schedule ≡ schedule.now
+            → IsAt r opening_moment self
             → Saw (W.seen watch.old) (W.seen watch.new)
-            (glances_along p (moment_after p named self.limit schedule.now) o.events)) }
-        ensures err { OnErr result ((p : Program) (named : ℕ → Bool)
-            → IsAt p named opening_moment self
-            → (events : ℕ) × IsRunning p named self.limit schedule.now events
+            (glances_along r.program (moment_after r) o.events)) }
+        ensures err { OnErr result ((r : Run) → r.schedule ≡ schedule.now
+            → IsAt r opening_moment self
+            → (events : ℕ) × IsRunning r events
             × Saw (W.seen watch.old) (W.seen watch.new)
-            (glances_along p (moment_after p named self.limit schedule.now) events)) }
+            (glances_along r.program (moment_after r) events)) }
     {
         let mut walk = Walk::new(&mut self, schedule);
         walk.go_until(Until::Over, watch)?;
@@ -67,22 +64,22 @@ impl Board {
     /// runs out, the board stands after whole events.
     pub fn drain<W: Watch>(&mut self, watch: &mut W) -> Result<(), NoMemory>
         requires { self.old.events + most_pending < most_events }
-        ensures ok { OnOk result ((p : Program) (named : ℕ → Bool) (m : Moment)
-            → IsAt p named m self.old
-            → (events : ℕ) × IsDrain p named self.old.limit m events
-            × IsAlong p named (answered_after p named self.old.limit m) events
+        ensures ok { OnOk result ((r : Run) (m : Moment)
+            → IsAt r m self.old
+            → (events : ℕ) × IsDrain r m events
+            × IsAlong r (answered_after r m) events
             (W.seen watch.old) (W.seen watch.new) self.new) }
         ensures empty { OnOk result (self.new.pending ≡ []) }
-        ensures settled { OnOk result ((p : Program) (named : ℕ → Bool) (m : Moment)
-            → IsAt p named m self.old
-            → IsSettled p m self.new) }
+        ensures settled { OnOk result ((r : Run) (m : Moment)
+            → IsAt r m self.old
+            → IsSettled r.program m self.new) }
         ensures bounded { self.new.events ≤ self.old.events + length self.old.pending }
         ensures lighter { IsNoHeavier self.old self.new }
         ensures same { IsSameRun self.old self.new }
-        ensures err { OnErr result ((p : Program) (named : ℕ → Bool) (m : Moment)
-            → IsAt p named m self.old
-            → (events : ℕ) × IsDraining p named self.old.limit m events
-            × IsAlong p named (answered_after p named self.old.limit m) events
+        ensures err { OnErr result ((r : Run) (m : Moment)
+            → IsAt r m self.old
+            → (events : ℕ) × IsDraining r m events
+            × IsAlong r (answered_after r m) events
             (W.seen watch.old) (W.seen watch.new) self.new) }
     {
         self.follow(Route::Answers, watch)
@@ -95,10 +92,10 @@ impl Board {
     #[tactic(auto, using(crate::proofs::Routes::next_counted))]
     pub(crate) fn follow<W: Watch>(&mut self, route: Route, watch: &mut W) -> Result<(), NoMemory>
         requires { CanBeCounted route self.old }
-        ensures ok { OnOk result ((p : Program) (named : ℕ → Bool) (m : Moment)
-            → IsAt p named m self.old
-            → (events : ℕ) × IsFirst (stops_at_event route.entry p named self.old.limit m) events
-            × IsAlong p named (moments_by route.entry p named self.old.limit m) events
+        ensures ok { OnOk result ((r : Run) (m : Moment)
+            → IsAt r m self.old
+            → (events : ℕ) × IsFirst (stops_at_event route.entry r m) events
+            × IsAlong r (moments_by route.entry r m) events
             (W.seen watch.old) (W.seen watch.new) self.new
             × (self.new.events ≡ self.old.events + events)) }
         ensures answered { route.entry ≡ RouteValue.Answers
@@ -107,10 +104,10 @@ impl Board {
         ensures kept { OnOk result (IsKept self.new) }
         ensures bounded { IsBoundedBy route.entry self.old self.new }
         ensures same { IsSameRun self.old self.new }
-        ensures err { OnErr result ((p : Program) (named : ℕ → Bool) (m : Moment)
-            → IsAt p named m self.old
-            → (events : ℕ) × NotBefore (stops_at_event route.entry p named self.old.limit m) events
-            × IsAlong p named (moments_by route.entry p named self.old.limit m) events
+        ensures err { OnErr result ((r : Run) (m : Moment)
+            → IsAt r m self.old
+            → (events : ℕ) × NotBefore (stops_at_event route.entry r m) events
+            × IsAlong r (moments_by route.entry r m) events
             (W.seen watch.old) (W.seen watch.new) self.new
             × (self.new.events ≡ self.old.events + events)) }
     {
@@ -128,11 +125,11 @@ impl Board {
         ensures events { IfOk result (λ o. o.events ≡ self.events) }
         ensures value { IfOk result (λ o. self.pending ≡ []
             → o ≡ outcome_by (image_bus self.memory.image) (local_of self)) }
-        ensures moment { IfOk result (λ o. (p : Program) (named : ℕ → Bool) (m : Moment)
-            → IsAt p named m self → is_over p self.limit m ≡ true
-            → o ≡ outcome_at p m) }
-        ensures limit_end { IfOk result (λ o. (p : Program) (named : ℕ → Bool) (m : Moment)
-            → IsAt p named m self → is_over p self.limit m ≡ true
+        ensures moment { IfOk result (λ o. (r : Run) (m : Moment)
+            → IsAt r m self → is_over r m ≡ true
+            → o ≡ outcome_at r.program m) }
+        ensures limit_end { IfOk result (λ o. (r : Run) (m : Moment)
+            → IsAt r m self → is_over r m ≡ true
             → (o.end ≡ EndValue.Limit) ↔ (o.retired ≡ self.limit)) }
     {
         let regs = self.regs.values();

@@ -4,7 +4,7 @@ ghost use Rattle.std.specs.Prelude.{ℕ, Bool, ◌≡◌, ◌+◌, false, IfOk, 
 ghost use Rattle.m88_event.specs.Letters.{letter_at};
 ghost use Rattle.m88_event.specs.Local.{is_over_by};
 ghost use Rattle.m88_event.specs.Run.{IsDrain, IsDraining, IsFirst, NotBefore, answered_after};
-ghost use Rattle.m88_event.specs.Timeline.{Moment};
+ghost use Rattle.m88_event.specs.Timeline.{Moment, Run};
 ghost use Rattle.m88_event.specs.declared.letter.Letter.{Letter as LetterValue};
 ghost use Rattle.m88_isa.specs.Machine.{Program};
 ghost use Rattle.m88_board.specs.Board.{local_of};
@@ -48,9 +48,9 @@ impl<'a> Walk<'a> {
         requires { is_over_by self.old.board.now.limit (local_of self.old.board.now) ≡ false }
         ensures goes { MakesNext self.old self.new (W.seen watch.old) (W.seen watch.new) result }
         ensures told { letter_at self.old.schedule.now self.old.taken ≡ LetterValue.Issue
-            → IfOk result (λ happened. (p : Program) (named : ℕ → Bool) (m : Moment)
-            → IsAt p named m self.old.board.now
-            → IsTold p named self.old.board.now.limit m happened told.new) }
+            → IfOk result (λ happened. (r : Run) (m : Moment)
+            → IsAt r m self.old.board.now
+            → IsTold r m happened told.new) }
         ensures made { MakesWordAccesses told.old.plan → MakesWordAccesses told.new.plan }
         ensures unseen { OnErr result (watch.new ≡ watch.old) }
     {
@@ -83,21 +83,17 @@ impl<'a> Walk<'a> {
     /// Where memory runs out, the board stands after as many events as the watch was shown, and so many letters are
     /// taken.
     pub fn go_until<W: Watch>(&mut self, until: Until, watch: &mut W) -> Result<(), NoMemory>
-        ensures ok { OnOk result ((p : Program) (named : ℕ → Bool) (m : Moment)
-            → IsAt p named m self.old.board.now
-            → (events : ℕ) × IsFirst (stops_after (is_enough until.entry) p named self.old.board.now.limit
-            self.old.schedule.now self.old.taken m) events
-            × IsAlong p named (moments_from p named self.old.board.now.limit
-            self.old.schedule.now self.old.taken m) events
+        ensures ok { OnOk result ((r : Run) (m : Moment) → r.schedule ≡ self.old.schedule.now
+            → IsAt r m self.old.board.now
+            → (events : ℕ) × IsFirst (stops_after (is_enough until.entry) r self.old.taken m) events
+            × IsAlong r (moments_from r self.old.taken m) events
             (W.seen watch.old) (W.seen watch.new) self.new.board.now
             × (self.new.taken ≡ self.old.taken + events)) }
         ensures stays { StaysOnRun self.old self.new }
-        ensures err { OnErr result ((p : Program) (named : ℕ → Bool) (m : Moment)
-            → IsAt p named m self.old.board.now
-            → (events : ℕ) × NotBefore (stops_after (is_enough until.entry) p named self.old.board.now.limit
-            self.old.schedule.now self.old.taken m) events
-            × IsAlong p named (moments_from p named self.old.board.now.limit
-            self.old.schedule.now self.old.taken m) events
+        ensures err { OnErr result ((r : Run) (m : Moment) → r.schedule ≡ self.old.schedule.now
+            → IsAt r m self.old.board.now
+            → (events : ℕ) × NotBefore (stops_after (is_enough until.entry) r self.old.taken m) events
+            × IsAlong r (moments_from r self.old.taken m) events
             (W.seen watch.old) (W.seen watch.new) self.new.board.now
             × (self.new.taken ≡ self.old.taken + events)) }
     {
@@ -117,17 +113,17 @@ impl<'a> Walk<'a> {
     /// Makes `r` events until nothing is pending, which take no letter of the run. The watch is shown the board after
     /// each. Where memory runs out, the board stands after whole events.
     pub fn drain<W: Watch>(&mut self, watch: &mut W) -> Result<(), NoMemory>
-        ensures ok { OnOk result ((p : Program) (named : ℕ → Bool) (m : Moment)
-            → IsAt p named m self.old.board.now
-            → (events : ℕ) × IsDrain p named self.old.board.now.limit m events
-            × IsAlong p named (answered_after p named self.old.board.now.limit m) events
+        ensures ok { OnOk result ((r : Run) (m : Moment)
+            → IsAt r m self.old.board.now
+            → (events : ℕ) × IsDrain r m events
+            × IsAlong r (answered_after r m) events
             (W.seen watch.old) (W.seen watch.new) self.new.board.now) }
         ensures stays { StaysOnRun self.old self.new }
         ensures taken { self.new.taken ≡ self.old.taken }
-        ensures err { OnErr result ((p : Program) (named : ℕ → Bool) (m : Moment)
-            → IsAt p named m self.old.board.now
-            → (events : ℕ) × IsDraining p named self.old.board.now.limit m events
-            × IsAlong p named (answered_after p named self.old.board.now.limit m) events
+        ensures err { OnErr result ((r : Run) (m : Moment)
+            → IsAt r m self.old.board.now
+            → (events : ℕ) × IsDraining r m events
+            × IsAlong r (answered_after r m) events
             (W.seen watch.old) (W.seen watch.new) self.new.board.now) }
     {
         self.board.drain(watch)

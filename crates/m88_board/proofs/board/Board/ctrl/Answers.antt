@@ -4,5 +4,5 @@ use Rattle.m88_board.specs.contracts.board.Board.{the_view}
 use Rattle.m88_board.proofs.board.Board.ctrl.Goals as goal
 
 pub returns-clause-moment : goal.returns-clause-moment
-returns-clause-moment c = λ p named m at.
-    status_seen p named m (the_view c.self.inside) (rw (← c.self.view_is) at at) c.self.invariant
+returns-clause-moment c = λ r m at.
+    status_seen r m (the_view c.self.inside) (rw (← c.self.view_is) at at) c.self.invariant

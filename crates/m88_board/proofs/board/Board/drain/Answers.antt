@@ -10,21 +10,21 @@ use Rattle.m88_board.proofs.board.Board.drain.Goals as goal
 
 pub returns-clause-ok : goal.returns-clause-ok
 returns-clause-ok g c =
-    on_ok_weaker c.follow.result (λ ok p named m at.
-    let went = ok p named m at in
+    on_ok_weaker c.follow.result (λ ok r m at.
+    let went = ok r m at in
     (went.0, went.1, went.2)) c.follow.ensures.ok
 
 pub returns-clause-err : goal.returns-clause-err
 returns-clause-err g c =
-    on_err_weaker c.follow.result (λ err p named m at.
-    let went = err p named m at in
+    on_err_weaker c.follow.result (λ err r m at.
+    let went = err r m at in
     (went.0, went.1, went.2)) c.follow.ensures.err
 
 pub returns-clause-settled : goal.returns-clause-settled
 returns-clause-settled g c =
     on_ok c.follow.result c.follow.ensures.ok c.follow.ensures.kept (c.follow.ensures.answered refl)
-    (λ ok kept none p named m at.
-    let went = ok p named m at in
-    let after : Moment = answered_after p named c.args.self.now.limit m went.0 in
-    settled_before p m after c.follow.new.self (answered_issues_none p named c.args.self.now.limit m went.0)
-    (settled p named after c.follow.new.self kept went.2.at went.1.here none))
+    (λ ok kept none r m at.
+    let went = ok r m at in
+    let after : Moment = answered_after r m went.0 in
+    settled_before r.program m after c.follow.new.self (answered_issues_none r m went.0)
+    (settled r after c.follow.new.self went.2.at kept went.1.here none))

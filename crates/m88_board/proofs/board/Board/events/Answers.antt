@@ -4,4 +4,4 @@ use Rattle.m88_board.specs.contracts.board.Board.{the_view}
 use Rattle.m88_board.proofs.board.Board.events.Goals as goal
 
 pub returns-clause-moment : goal.returns-clause-moment
-returns-clause-moment c = λ p named m at. events_at p named m (the_view c.self.inside) (rw (← c.self.view_is) at at)
+returns-clause-moment c = λ r m at. events_at r m (the_view c.self.inside) (rw (← c.self.view_is) at at)

@@ -7,5 +7,5 @@ pub returns-clause-value : goal.returns-clause-value
 returns-clause-value c = search rules
 
 pub returns-clause-moment : goal.returns-clause-moment
-returns-clause-moment c = λ p named m at.
-    returns-clause-value c ∙ ap length (records_at p named m c.args.self.now at)
+returns-clause-moment c = λ r m at.
+    returns-clause-value c ∙ ap length (records_at r m c.args.self.now at)

@@ -18,8 +18,8 @@ loop-letter-init g c = record {
   counted = omega arith;
   same = same_run c.args.self.now;
   bounded = bounded_at_first c.args.route c.args.self.now c.requires;
-  goes = λ p named m at.
-      goes_start c.args.route p named m (c.args.self.now.events - c.args.self.now.events)
+  goes = λ r m at.
+      goes_start c.args.route r m (c.args.self.now.events - c.args.self.now.events)
       (g.W.Watch.seen c.args.watch.now) c.args.self.now (omega arith) at;
 }
 
@@ -33,7 +33,6 @@ loop-letter-preserved g c =
     let event = c.in_ok-step.ensures.happens.happens in
     let counted = inv.counted in
     let one = event.counted in
-    let limit = c.args.self.now.limit in
     let made = c.loop-letter.self.events - c.args.self.now.events in
     let place = made_so inv.first (ap (λ (b : BoardView). b.events) c.self-in-loop-letter.view_is) in
     let is = c.in-Some.ensures.letter ∙ ap (letters_by c.args.route) place in
@@ -45,22 +44,22 @@ loop-letter-preserved g c =
       bounded =
           bounded_behind c.args.route c.in-Some.letter c.args.self.now c.loop-letter.self _ c.step.new.self inv.bounded
           c.in-Some.ensures.going counted is event;
-      goes = λ p named m at.
-          let goes = inv.goes p named m at in
-          let here : Moment = moments_by c.args.route p named limit m made in
-          goes_step c.args.route p named limit m made (c.step.new.self.events - c.args.self.now.events) _ _ _
-          c.in-Some.letter c.loop-letter.self c.step.new.self (omega (arith, counted, one)) inv.same.limit is goes
-          (stops_there c.args.route p named limit c.loop-letter.self.limit m _ made _ place inv.same.limit
-          (c.in-Some.ensures.moment p named here goes.along.at))
-          (c.in_ok-step.ensures.happens.ok p named here goes.along.at);
+      goes = λ r m at.
+          let goes = inv.goes r m at in
+          let here : Moment = moments_by c.args.route r m made in
+          goes_step c.args.route r m made (c.step.new.self.events - c.args.self.now.events) _ _ _
+          c.in-Some.letter c.loop-letter.self c.step.new.self (omega (arith, counted, one)) is goes
+          (stops_there c.args.route r m _ made _ place
+          (c.in-Some.ensures.moment r here goes.along.at))
+          (c.in_ok-step.ensures.happens.ok r here goes.along.at);
     }
 
 pub returns-in_err-step-clause-err : goal.returns-in_err-step-clause-err
 returns-in_err-step-clause-err g c =
-    let p = err_from_is_err_and c.from_residual.result c.from_residual.ensures.1 in
-    rw (p.1) (λ p named m at.
+    let is = err_from_is_err_and c.from_residual.result c.from_residual.ensures.1 in
+    rw (is.1) (λ r m at.
     let inv = c.loop-letter.invariant in
-    let goes = inv.goes p named m at in
+    let goes = inv.goes r m at in
     let made = c.loop-letter.self.events - c.args.self.now.events in
     let still = c.in_err-step.ensures.happens in
     let counted = inv.counted in
@@ -68,7 +67,7 @@ returns-in_err-step-clause-err g c =
       made,
       goes.first,
       record {
-        at = subst (λ (b : BoardView). IsAt p named (moments_by c.args.route p named c.args.self.now.limit m made) b)
+        at = subst (λ (b : BoardView). IsAt r (moments_by c.args.route r m made) b)
             (sym still) goes.along.at;
         saw = rw c.in_err-step.ensures.unseen goes.along.saw;
       },
@@ -86,18 +85,17 @@ returns-in_err-step-clause-same g c =
     c.loop-letter.invariant.same
 
 pub returns-clause-ok : goal.returns-clause-ok
-returns-clause-ok g c = λ p named m at.
+returns-clause-ok g c = λ r m at.
     let inv = c.loop-letter.invariant in
-    let goes = inv.goes p named m at in
+    let goes = inv.goes r m at in
     let counted = inv.counted in
-    let limit = c.args.self.now.limit in
     let made = c.loop-letter.self.events - c.args.self.now.events in (
       made,
       record {
         here =
-            stops_there c.args.route p named limit c.loop-letter.self.limit m _ made _
-            (made_so inv.first (ap (λ (b : BoardView). b.events) c.self-in-loop-letter.view_is)) inv.same.limit
-            (c.in_default.ensures.moment p named (moments_by c.args.route p named limit m made) goes.along.at);
+            stops_there c.args.route r m _ made _
+            (made_so inv.first (ap (λ (b : BoardView). b.events) c.self-in-loop-letter.view_is))
+            (c.in_default.ensures.moment r (moments_by c.args.route r m made) goes.along.at);
         first = goes.first;
       },
       goes.along,

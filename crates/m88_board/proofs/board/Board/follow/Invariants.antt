@@ -1,7 +1,6 @@
 -- Some events of the route were made, and it stopped behind none but the last.
 use Rattle.std.proofs.Common.{ℕ, Bool, ◌≡◌, ◌≤◌, ◌-◌}
-use Rattle.m88_event.specs.Timeline.{Moment}
-use Rattle.m88_isa.specs.Machine.{Program}
+use Rattle.m88_event.specs.Timeline.{Moment, Run}
 use Rattle.m88_board.proofs.Walking.{Goes}
 use Rattle.m88_board.specs.Inside.Routes.{IsBoundedBy}
 use Rattle.m88_board.specs.Kept.{IsKept, most_events}
@@ -15,8 +14,8 @@ invariant-loop-letter g l = record {
   counted : l.initial.self.events ≤ l.self.events;
   same : IsSameRun l.initial.self l.self;
   bounded : IsBoundedBy l.route l.initial.self l.self;
-  goes : (p : Program) (named : ℕ → Bool) (m : Moment) → IsAt p named m l.initial.self
-      → Goes l.route p named l.initial.self.limit m (l.self.events - l.initial.self.events)
+  goes : (r : Run) (m : Moment) → IsAt r m l.initial.self
+      → Goes l.route r m (l.self.events - l.initial.self.events)
       (g.W.Watch.seen l.initial.watch) (g.W.Watch.seen l.watch) l.self;
 }
 

@@ -2,7 +2,6 @@
 use Rattle.std.specs.Prelude.{[], false, ◌≡◌}
 use Rattle.std.proofs.Common.{ap, refl, rules, subst, sym, ◌∙◌}
 use Rattle.m88_ctrl.specs.ControlRegisters.{ControlRegisters}
-use Rattle.m88_mem.specs.Marks.{absent_in}
 use Rattle.m88_board.proofs.Moving.{empty_of}
 use Rattle.m88_board.proofs.Resuming.{ComesFrom, at_from, kept_from, words_from, zero_in}
 use Rattle.m88_board.proofs.Suspending.{all_done, saved_is, stands_for}
@@ -67,18 +66,21 @@ kept_words c =
 pub of-self-inside-requires : goal.of-self-inside-requires
 of-self-inside-requires c =
     let stands = c.requires.stands in
-    zero_in stands.0 stands.1 stands.2 c.args.other.now stands.3
+    zero_in stands.0 stands.1 c.args.other.now stands.2
 
 pub invariant_of-self : goal.invariant_of-self
 invariant_of-self c = kept_from c.args.other.now (new_board c) c.requires.stands (from c)
 
+pub returns-clause-empty : goal.returns-clause-empty
+returns-clause-empty c = none_pending c
+
 pub returns-clause-resumed : goal.returns-clause-resumed
-returns-clause-resumed c = λ p named m stands. at_from p named m c.args.other.now (new_board c) stands (from c)
+returns-clause-resumed c = λ r m stands. at_from r m c.args.other.now (new_board c) stands (from c)
 
 pub returns-clause-suspended : goal.returns-clause-suspended
 returns-clause-suspended c = rw (← c.self.view_is)
-    (λ p m at. subst (StandsFor p (absent_in c.self.inside.book.absent) m) (sym (kept_words c))
-    (stands_for p m (the_view c.self.inside) c.self.invariant (none_pending c) at))
+    (λ r m names at. subst (StandsFor r m) (sym (kept_words c))
+    (stands_for r m (the_view c.self.inside) at names c.self.invariant (none_pending c)))
 
 pub returns-clause-runs : goal.returns-clause-runs
 returns-clause-runs c = words_from c.args.other.now (new_board c) (from c)
@@ -87,9 +89,9 @@ pub returns-clause-keeps : goal.returns-clause-keeps
 returns-clause-keeps c = rw (← c.self.view_is) (kept_words c)
 
 pub returns-clause-drained : goal.returns-clause-drained
-returns-clause-drained c = λ p named m at.
+returns-clause-drained c = λ r m at.
     let stands = rw (← c.self.view_is) at at in
-    (λ ok. all_done p named m (the_view c.self.inside) stands (none_pending c), λ done. refl)
+    (λ ok. all_done r m (the_view c.self.inside) stands (none_pending c), λ done. refl)
 
 pub returns-clause-kept : goal.returns-clause-kept
 returns-clause-kept c = kept_from c.args.other.now (new_board c) c.requires.stands (from c)

@@ -1,7 +1,6 @@
 -- What is taken apart of a board is its context.
 use Rattle.std.specs.Prelude.{◌≡◌}
 use Rattle.std.proofs.Common.{ap, subst, sym, ◌∙◌}
-use Rattle.m88_mem.specs.Marks.{absent_in}
 use Rattle.m88_board.proofs.Ending.{none_wait}
 use Rattle.m88_board.proofs.Suspending.{own_run, stands_for}
 use Rattle.m88_board.specs.Contexts.{IsRunOf, StandsFor, context_of}
@@ -51,5 +50,5 @@ pub returns-clause-stands : goal.returns-clause-stands
 returns-clause-stands c =
     let none = rw (← c.self.view_is) at c.requires in
     rw (← c.self.view_is)
-    (λ p m at. subst (StandsFor p (absent_in c.self.inside.book.absent) m) (sym (own_words c))
-    (stands_for p m (the_view c.self.inside) c.self.invariant none at))
+    (λ r m names at. subst (StandsFor r m) (sym (own_words c))
+    (stands_for r m (the_view c.self.inside) at names c.self.invariant none))

@@ -8,15 +8,15 @@ returns-then-not-is_pending-clause-value c =
     over_if c.args.self.now c.is_pending.result c.is_idle.result c.is_pending.ensures c.if-not-is_pending.true c.is_idle.ensures
 
 pub returns-then-not-is_pending-clause-moment : goal.returns-then-not-is_pending-clause-moment
-returns-then-not-is_pending-clause-moment c = λ p named m at.
+returns-then-not-is_pending-clause-moment c = λ r m at.
     over_if c.args.self.now c.is_pending.result c.is_idle.result c.is_pending.ensures c.if-not-is_pending.true c.is_idle.ensures
-    ∙ over_at p named m c.args.self.now at
+    ∙ over_at r m c.args.self.now at
 
 pub returns-else-not-is_pending-clause-value : goal.returns-else-not-is_pending-clause-value
 returns-else-not-is_pending-clause-value c =
     not_over_if c.args.self.now c.is_pending.result c.is_pending.ensures c.if-not-is_pending.false
 
 pub returns-else-not-is_pending-clause-moment : goal.returns-else-not-is_pending-clause-moment
-returns-else-not-is_pending-clause-moment c = λ p named m at.
+returns-else-not-is_pending-clause-moment c = λ r m at.
     not_over_if c.args.self.now c.is_pending.result c.is_pending.ensures c.if-not-is_pending.false
-    ∙ over_at p named m c.args.self.now at
+    ∙ over_at r m c.args.self.now at

@@ -6,8 +6,8 @@ use Rattle.m88_board.specs.contracts.board.Board.{the_view}
 use Rattle.m88_board.proofs.board.Board.memory.Goals as goal
 
 pub returns-clause-moment : goal.returns-clause-moment
-returns-clause-moment c = λ p named m at.
-    memory_seen p named m (the_view c.self.inside) (rw (← c.self.view_is) at at) c.self.invariant
+returns-clause-moment c = λ r m at.
+    memory_seen r m (the_view c.self.inside) (rw (← c.self.view_is) at at) c.self.invariant
 
 pub returns-clause-program : goal.returns-clause-program
 returns-clause-program c = some_program false c.self.inside.memory.image c.self.invariant.image

@@ -3,7 +3,7 @@ use Rattle.std.proofs.Common.{◌≡◌, ◌∙◌, ◌*◌, ◌/◌, ℕ, Bool,
 use Rattle.m88_base.proofs.Laws.{few_parts}
 use Rattle.m88_base.specs.Image.{IsImage, ProgramImage}
 use Rattle.m88_codec.proofs.Laws.{program_in, program_in_holds, program_in_mxm}
-use Rattle.m88_event.specs.Timeline.{opening_moment}
+use Rattle.m88_event.specs.Timeline.{Run, opening_moment, run_with}
 use Rattle.m88_isa.specs.Address.{word_address}
 use Rattle.m88_mem.specs.DataBus.{image_bus}
 use Rattle.m88_mem.specs.Marks.{absent_in}
@@ -33,12 +33,13 @@ pub returns-clause-program : goal.returns-clause-program
 returns-clause-program c = with_mxm c.args.mxm c.args.image.now c.part_count.ensures.image
 
 pub returns-clause-at : goal.returns-clause-at
-returns-clause-at c = λ p of mode.
+returns-clause-at c = λ p schedule of mode.
     let image = sym c.in_ok-memory.ensures.image in
-    made (IsAt p (absent_in c.args.absent.now) opening_moment) c.args.mxm c.args.limit c.copy.result c.args.absent.now c.new-2.result _ c.new-3.result c.new-4.result
+    let r : Run = run_with p (absent_in c.args.absent.now) c.args.limit schedule in
+    made (IsAt r opening_moment) c.args.mxm c.args.limit c.copy.result c.args.absent.now c.new-2.result _ c.new-3.result c.new-4.result
     c.in_ok-memory.memory c.new-5.result c.new-6.result c.copy.ensures c.new-2.ensures c.new-3.ensures
     c.new-5.ensures c.new-6.ensures
-    (opens p (absent_in c.args.absent.now) c.args.mxm c.args.limit c.args.absent.now (c.start.result / 4 * 4) c.lacks_word-e0.result
+    (opens r c.args.mxm c.args.absent.now (c.start.result / 4 * 4) c.lacks_word-e0.result
     c.lacks_word-e1.result c.new-4.result c.in_ok-memory.memory c.new-4.ensures.numbers
     (c.in_ok-memory.ensures.bus ∙ ap image_bus image) c.in_ok-memory.ensures.absent
     (ap (λ (n : ℕ). n / 4 * 4) c.start.ensures ∙ ap (λ (i : ProgramImage). word_address i.start) image)

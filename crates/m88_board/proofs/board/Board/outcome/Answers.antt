@@ -3,10 +3,9 @@ use Rattle.std.specs.Prelude.{ℕ, Bool, true, List, [], ◌≡◌, ◌↔◌}
 use Rattle.std.proofs.Common.{ap, ◌∙◌}
 use Rattle.std.proofs.lemmas.Result.{IfOk-weaker}
 use Rattle.m88_event.specs.Run.{outcome_at, outcome_by}
-use Rattle.m88_event.specs.Timeline.{Moment, is_over}
+use Rattle.m88_event.specs.Timeline.{Moment, Run, is_over}
 use Rattle.m88_event.specs.declared.happened.End.TheVariants.{Limit}
 use Rattle.m88_event.specs.declared.outcome.Outcome.{Outcome}
-use Rattle.m88_isa.specs.Machine.{Program}
 use Rattle.m88_mem.specs.DataBus.{MemoryView, image_bus}
 use Rattle.m88_board.proofs.Ending.{came_to, came_to_at, limited, none_left}
 use Rattle.m88_board.specs.Board.{BoardView, local_of}
@@ -40,24 +39,22 @@ returns-clause-value c =
 pub returns-clause-moment : goal.returns-clause-moment
 returns-clause-moment c =
     IfOk-weaker c.into_outcome.result (Comes c.self.inside.book c.values-regs.result c.carry.result c.self.inside.memory)
-    (λ (o : Outcome). (p : Program) (named : ℕ → Bool) (m : Moment) → IsAt p named m c.args.self
-    → is_over p c.args.self.limit m ≡ true → o ≡ outcome_at p m)
-    (λ o is p named m at over.
+    (λ (o : Outcome). (r : Run) (m : Moment) → IsAt r m c.args.self
+    → is_over r m ≡ true → o ≡ outcome_at r.program m)
+    (λ o is r m at over.
     let stands = rw (← c.self.view_is) at at in
-    let ends = rw (← c.self.view_is) at over in
-    came_to_at p named m (the_view c.self.inside) o stands ends
+    came_to_at r m (the_view c.self.inside) stands o
     (came_to (the_view c.self.inside) c.values-regs.result c.carry.result o c.self.invariant
-    (none_left p named m (the_view c.self.inside) stands ends) c.values-regs.ensures.whole c.carry.ensures is))
+    (none_left r m (the_view c.self.inside) stands over) c.values-regs.ensures.whole c.carry.ensures is))
     c.into_outcome.ensures
 
 pub returns-clause-limit_end : goal.returns-clause-limit_end
 returns-clause-limit_end c =
     IfOk-weaker c.into_outcome.result (Comes c.self.inside.book c.values-regs.result c.carry.result c.self.inside.memory)
-    (λ (o : Outcome). (p : Program) (named : ℕ → Bool) (m : Moment) → IsAt p named m c.args.self
-    → is_over p c.args.self.limit m ≡ true → (o.end ≡ Limit) ↔ (o.retired ≡ c.args.self.limit))
-    (λ o is p named m at over.
+    (λ (o : Outcome). (r : Run) (m : Moment) → IsAt r m c.args.self
+    → is_over r m ≡ true → (o.end ≡ Limit) ↔ (o.retired ≡ c.args.self.limit))
+    (λ o is r m at over.
     let stands = rw (← c.self.view_is) at at in
-    let ends = rw (← c.self.view_is) at over in
     rw (← c.self.view_is)
-    (limited p named m (the_view c.self.inside) c.values-regs.result c.carry.result o c.self.invariant stands ends is))
+    (limited r m (the_view c.self.inside) c.values-regs.result c.carry.result o c.self.invariant stands over is))
     c.into_outcome.ensures

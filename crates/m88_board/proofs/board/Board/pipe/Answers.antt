@@ -19,5 +19,5 @@ pub returns-clause-ssbr : goal.returns-clause-ssbr
 returns-clause-ssbr c = ap (λ n. bit_at n 0) c.busy.ensures.value ∙ zero_bit (the_view c.self.inside) c.self.invariant
 
 pub returns-clause-moment : goal.returns-clause-moment
-returns-clause-moment c = λ p named m at.
-    piped_at p named m c.args.self.now _ at (returns-clause-value c p at.image)
+returns-clause-moment c = λ r m at.
+    piped_at r m c.args.self.now _ at (returns-clause-value c r.program at.image)

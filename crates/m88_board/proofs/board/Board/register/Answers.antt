@@ -11,7 +11,7 @@ returns-clause-value c = rw (← c.self.view_is)
     c.ok.ensures.value c.get.ensures.busy c.get.ensures.value)
 
 pub returns-clause-moment : goal.returns-clause-moment
-returns-clause-moment c = λ p named m at.
+returns-clause-moment c = λ r m at.
     register_is (the_view c.self.inside) (number_of c.args.r) c.get.result c.ok.result c.self.invariant.parts.waiting
     c.ok.ensures.value c.get.ensures.busy c.get.ensures.value
-    ∙ value_at p named m (the_view c.self.inside) (number_of c.args.r) (rw (← c.self.view_is) at at)
+    ∙ value_at r m (the_view c.self.inside) (rw (← c.self.view_is) at at) (number_of c.args.r)

@@ -24,16 +24,15 @@ returns-clause-happens g c =
     c.count.ensures.counted c.count.ensures.kept c.in_ok-brief.ensures.brings in
     record {
       happens = event;
-      ok = λ p named m at.
-          let next = event.timeline p named m at in
-          let after = after_letter p named c.args.self.now.limit c.args.letter m in
+      ok = λ r m at.
+          let next = event.timeline r m at in
+          let after = after_letter r c.args.letter m in
           record {
             at = next;
-            limit = event.same.limit;
             saw =
-                saw_same _ _ (glance_of c.count.new.self ∷ []) (glance_at p after ∷ [])
+                saw_same _ _ (glance_of c.count.new.self ∷ []) (glance_at r.program after ∷ [])
                 (ap (λ (glance : Glance). glance ∷ [])
-                (glance_is p named after c.count.new.self next event.kept.slots))
+                (glance_is r after c.count.new.self next event.kept.slots))
                 c.after.ensures;
           };
     }
@@ -48,11 +47,11 @@ returns-clause-evicts g c = λ letter.
 
 pub returns-clause-tells : goal.returns-clause-tells
 returns-clause-tells g c = record {
-  told_at = λ letter asked p named m at.
+  told_at = λ letter asked r m at.
       let tells = c.in_ok-brief.ensures.tells letter in
-      told_at p named m c.args.self.now (happened_of c.in_ok-brief.brief c.count.new.self) c.take.new.told at
-      (λ went. tells.word p at.image
+      told_at r m c.args.self.now at (happened_of c.in_ok-brief.brief c.count.new.self) c.take.new.told
+      (λ went. tells.word r.program at.image
       (subst WentOn (sym (told_counted c.in_ok-brief.brief c.take.new.self c.count.new.self c.count.ensures.counted)) went))
-      (λ change issued. tells.changes.plan asked p change at.image issued);
+      (λ change issued. tells.changes.plan asked r.program change at.image issued);
   made = c.in_ok-brief.ensures.made;
 }

@@ -1,13 +1,12 @@
 -- What a context came to is what the moment does for which it stands.
-use Rattle.std.specs.Prelude.{ℕ, Bool, true, ◌≡◌, ◌==◌}
+use Rattle.std.specs.Prelude.{true, ◌≡◌, ◌==◌}
 use Rattle.std.specs.Int.{bit_at}
 use Rattle.std.proofs.Common.{ap, refl}
 use Rattle.std.proofs.lemmas.Result.{IfOk-weaker}
 use Rattle.m88_ctrl.specs.ControlRegisters.{carry_place}
 use Rattle.m88_event.specs.Run.{outcome_at}
-use Rattle.m88_event.specs.Timeline.{Moment, is_over}
+use Rattle.m88_event.specs.Timeline.{Moment, Run, is_over}
 use Rattle.m88_event.specs.declared.outcome.Outcome.{Outcome}
-use Rattle.m88_isa.specs.Machine.{Program}
 use Rattle.m88_board.proofs.CameTo.{comes_to}
 use Rattle.m88_board.specs.Contexts.{StandsFor}
 use Rattle.m88_board.specs.Inside.Books.{outcome_in}
@@ -26,6 +25,6 @@ returns-clause-events c =
 pub returns-clause-moment : goal.returns-clause-moment
 returns-clause-moment c =
     IfOk-weaker c.into_outcome.result (Comes c.args.self)
-    (λ (o : Outcome). (p : Program) (named : ℕ → Bool) (m : Moment) → StandsFor p named m c.args.self
-    → is_over p c.args.self.book.limit m ≡ true → o ≡ outcome_at p m)
-    (λ o is p named m stands over. comes_to p named m c.args.self _ o stands refl is) c.into_outcome.ensures
+    (λ (o : Outcome). (r : Run) (m : Moment) → StandsFor r m c.args.self
+    → is_over r m ≡ true → o ≡ outcome_at r.program m)
+    (λ o is r m stands over. comes_to r m c.args.self _ o stands refl is) c.into_outcome.ensures

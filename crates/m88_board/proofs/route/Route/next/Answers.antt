@@ -4,11 +4,11 @@ use Rattle.m88_board.proofs.Walking.{drained_by}
 use Rattle.m88_board.proofs.route.Route.next.Goals as goal
 
 pub returns-then-is_pending-clause-moment : goal.returns-then-is_pending-clause-moment
-returns-then-is_pending-clause-moment c = λ p named m at.
+returns-then-is_pending-clause-moment c = λ r m at.
     rw (c.in-Answers.is) (sym (ap not (sym c.is_pending.ensures ∙ c.if-is_pending.true))
-    ∙ drained_by p named m c.args.board.now at)
+    ∙ drained_by r m c.args.board.now at)
 
 pub returns-else-is_pending-clause-moment : goal.returns-else-is_pending-clause-moment
-returns-else-is_pending-clause-moment c = λ p named m at.
+returns-else-is_pending-clause-moment c = λ r m at.
     rw (c.in-Answers.is) (sym (ap not (sym c.is_pending.ensures ∙ c.if-is_pending.false))
-    ∙ drained_by p named m c.args.board.now at)
+    ∙ drained_by r m c.args.board.now at)
