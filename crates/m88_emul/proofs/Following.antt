@@ -13,7 +13,7 @@ use Rattle.m88_event.proofs.Laws.{AreWords, FitsAlong, IsStep, choice_seen, fits
 use Rattle.m88_event.specs.Choice.{Choice, choice_of, end_by, finishes, issues, serves}
 use Rattle.m88_event.specs.Local.{Local, local_along, move, move_by, with_move_counted}
 use Rattle.m88_event.specs.Situation.{Situation, record_of}
-use Rattle.m88_event.specs.Timeline.{Moment, end_along, end_of_turn, situation_along}
+use Rattle.m88_event.specs.Timeline.{Moment, Run, end_along, end_of_turn, situation_along}
 use Rattle.m88_event.specs.declared.happened.End.{End}
 use Rattle.m88_event.specs.declared.letter.Letter.{Letter}
 use Rattle.m88_event.specs.declared.record.Record.{Record}
@@ -27,8 +27,8 @@ use Rattle.m88_emul.specs.Timeline.{ExtendedMoment, after_chosen, after_event, a
 use Rattle.m88_emul.specs.declared.emulation.Emulation.{Emulation}
 
 -- what is seen of a moment
-abbrev pub seen_at : Program → (ℕ → Bool) → Moment → Local
-seen_at p = local_along (extended_history p) (extended_bus p)
+abbrev pub seen_at : Run → Moment → Local
+seen_at r = local_along (extended_history r.program) (extended_bus r.program) r
 
 -- what becomes of an instruction by its turn
 pub deed_goes : (p : Program) (n : ℕ) (t : Turn) → turn_at p (extended_state p n) ≡ t →
@@ -114,12 +114,12 @@ unfolding transactions_before
 aided_made p n vector aid d = rw (add-one, d) (append-nil (transactions_before p n))
 
 -- what is seen of a deed is the deed
-seen_deed : (p : Program) (named : ℕ → Bool) (m : Moment) → IsProgram p → deed_seen p (seen_at p named m) ≡ deed_at p (extended_state p m.retired)
+seen_deed : (r : Run) (m : Moment) → IsProgram r.program → deed_seen r.program (seen_at r m) ≡ deed_at r.program (extended_state r.program m.retired)
 unfolding completed_state
-seen_deed p named m is =
-    ap (λ (memory : ℕ → ℕ). deed_of (turn_at p (extended_state p m.retired)) (instruction_at p (extended_state p m.retired).pc)
-    (extended_state p m.retired).regs memory)
-    (byte_is (extended_state p m.retired).memory (state_bytes p m.retired is))
+seen_deed r m is =
+    ap (λ (memory : ℕ → ℕ). deed_of (turn_at r.program (extended_state r.program m.retired)) (instruction_at r.program (extended_state r.program m.retired).pc)
+    (extended_state r.program m.retired).regs memory)
+    (byte_is (extended_state r.program m.retired).memory (state_bytes r.program m.retired is))
 
 -- software has nothing to complete
 abbrev pub NoAid : Option End → Deed → Type 0
@@ -136,10 +136,10 @@ no_aid true end d h = h refl
 no_aid false end d h = tt
 
 -- as it has nothing at a moment, and behind a choice that doesn't end the program
-unaided : (p : Program) (named : ℕ → Bool) (m : Moment) → IsProgram p → LiesBehind p m →
-    NoAid (end_along (extended_history p) m) (deed_seen p (seen_at p named m))
-unaided p named m is stands =
-    subst (NoAid (end_along (extended_history p) m)) (sym (seen_deed p named m is)) (no_aid m.ended _ _ stands.ended)
+unaided : (r : Run) (m : Moment) → IsProgram r.program → LiesBehind r.program m →
+    NoAid (end_along (extended_history r.program) m) (deed_seen r.program (seen_at r m))
+unaided r m is stands =
+    subst (NoAid (end_along (extended_history r.program) m)) (sym (seen_deed r m is)) (no_aid m.ended _ _ stands.ended)
 
 living : (p : Program) (m : Moment) (d : Deed) → m.ended ≡ false → NoAid (end_along (extended_history p) m) d
 living p m d lives = rw lives tt
@@ -148,32 +148,32 @@ abbrev GoesOn : Choice → Type 0
 GoesOn (finishes stop) = ⊥
 GoesOn _ = Unit {0}
 
-left : (p : Program) (named : ℕ → Bool) (m : Moment) (choice : Choice) (fault : Record) → IsProgram p → LiesBehind p m →
-    FitsAlong (extended_history p) m choice → GoesOn choice →
-    NoAid (move_by choice fault (seen_at p named m)).ended (deed_seen p (move_by choice fault (seen_at p named m)))
-left p named m (issues change) fault is stands fit goes = living p m _ fit.1
-left p named m (serves byte) fault is stands fit goes = living p m _ fit.1
-left p named m (finishes stop) fault is stands fit goes = absurd goes
-left p named m choice fault is stands fit goes = unaided p named m is stands
+left : (r : Run) (m : Moment) (choice : Choice) (fault : Record) → IsProgram r.program → LiesBehind r.program m →
+    FitsAlong (extended_history r.program) m choice → GoesOn choice →
+    NoAid (move_by choice fault (seen_at r m)).ended (deed_seen r.program (move_by choice fault (seen_at r m)))
+left r m (issues change) fault is stands fit goes = living r.program m _ fit.1
+left r m (serves byte) fault is stands fit goes = living r.program m _ fit.1
+left r m (finishes stop) fault is stands fit goes = absurd goes
+left r m choice fault is stands fit goes = unaided r m is stands
 
-finished_by : (p : Program) (named : ℕ → Bool) (x : ExtendedMoment) (stop : Stop) (fault : Record) (d : Deed) → IsProgram p →
-    LiesBehind p x.moment → FitsAlong (extended_history p) x.moment (finishes stop) →
-    deed_at p (extended_state p x.moment.retired) ≡ d → IsSingle d →
-    settled_by (Some (end_by stop)) d (record (seen_at p named x.moment) { ended = Some (end_by stop) })
-    ≡ seen_at p named (after_stop d p x).moment
+finished_by : (r : Run) (x : ExtendedMoment) (stop : Stop) (fault : Record) (d : Deed) → IsProgram r.program →
+    LiesBehind r.program x.moment → FitsAlong (extended_history r.program) x.moment (finishes stop) →
+    deed_at r.program (extended_state r.program x.moment.retired) ≡ d → IsSingle d →
+    settled_by (Some (end_by stop)) d (record (seen_at r x.moment) { ended = Some (end_by stop) })
+    ≡ seen_at r (after_stop d r.program x).moment
 unfolding completed_state
-finished_by p named x stop fault (alone t) is stands fit d single =
-    choice_seen (extended_history p) (extended_bus p) named x.moment (finishes stop) fault (are_words p x.moment is stands) fit
-finished_by p named x stop fault (aided vector aid) is stands fit d single =
+finished_by r x stop fault (alone t) is stands fit d single =
+    choice_seen (extended_history r.program) (extended_bus r.program) r x.moment (are_words r.program x.moment is stands) (finishes stop) fault fit
+finished_by r x stop fault (aided vector aid) is stands fit d single =
     let m : Moment = x.moment in
-    let completed = aided_state p m.retired vector aid is d single in
-    let bus = sym (ap (λ ws. bus_after_work m.done ws (in_words (opening p).memory)) (aided_work p m.retired vector aid d)
-    ∙ bus_mended m.done (work_before p m.retired) (map access_of aid.stores) (in_words (opening p).memory)) in
-    let pending = ap (drop m.done) (sym (aided_made p m.retired vector aid d)) in
-    let xip = next_xip (extended_history p) m.retired in
-    let absent = supplied named m (has_place_in aid.places) in
-    let ended : None ≡ (if m.ended then Some (end_of_turn (turn_at p (extended_state p (m.retired + 1)))) else None) = rw fit.1 refl in
-    λ i. record (seen_at p named m) {
+    let completed = aided_state r.program m.retired vector aid is d single in
+    let bus = sym (ap (λ ws. bus_after_work m.done ws (in_words (opening r.program).memory)) (aided_work r.program m.retired vector aid d)
+    ∙ bus_mended m.done (work_before r.program m.retired) (map access_of aid.stores) (in_words (opening r.program).memory)) in
+    let pending = ap (drop m.done) (sym (aided_made r.program m.retired vector aid d)) in
+    let xip = next_xip (extended_history r.program) m.retired in
+    let absent = supplied r m (has_place_in aid.places) in
+    let ended : None ≡ (if m.ended then Some (end_of_turn (turn_at r.program (extended_state r.program (m.retired + 1)))) else None) = rw fit.1 refl in
+    λ i. record (seen_at r m) {
       completed = sym completed i;
       bus = bus i;
       pending = pending i;
@@ -183,17 +183,17 @@ finished_by p named x stop fault (aided vector aid) is stands fit d single =
       retired = m.retired + 1;
     }
 
-by_choice : (p : Program) (named : ℕ → Bool) (x : ExtendedMoment) (choice : Choice) (fault : Record) → IsProgram p → LiesBehind p x.moment →
-    FitsAlong (extended_history p) x.moment choice →
-    settled p (move_by choice fault (seen_at p named x.moment)) ≡ seen_at p named (after_chosen p choice fault x).moment
+by_choice : (r : Run) (x : ExtendedMoment) (choice : Choice) (fault : Record) → IsProgram r.program → LiesBehind r.program x.moment →
+    FitsAlong (extended_history r.program) x.moment choice →
+    settled r.program (move_by choice fault (seen_at r x.moment)) ≡ seen_at r (after_chosen r.program choice fault x).moment
 unfolding settled
-by_choice p named x (finishes stop) fault is stands fit =
-    ap (λ (d : Deed). settled_by (Some (end_by stop)) d (record (seen_at p named x.moment) { ended = Some (end_by stop) })) (seen_deed p named x.moment is)
-    ∙ finished_by p named x stop fault (deed_at p (extended_state p x.moment.retired)) is stands fit refl
-    (single_deed (turn_at p (extended_state p x.moment.retired)) _ _ _)
-by_choice p named x choice fault is stands fit =
-    stays _ _ _ (left p named x.moment choice fault is stands fit tt)
-    ∙ choice_seen (extended_history p) (extended_bus p) named x.moment choice fault (are_words p x.moment is stands) fit
+by_choice r x (finishes stop) fault is stands fit =
+    ap (λ (d : Deed). settled_by (Some (end_by stop)) d (record (seen_at r x.moment) { ended = Some (end_by stop) })) (seen_deed r x.moment is)
+    ∙ finished_by r x stop fault (deed_at r.program (extended_state r.program x.moment.retired)) is stands fit refl
+    (single_deed (turn_at r.program (extended_state r.program x.moment.retired)) _ _ _)
+by_choice r x choice fault is stands fit =
+    stays _ _ _ (left r x.moment choice fault is stands fit tt)
+    ∙ choice_seen (extended_history r.program) (extended_bus r.program) r x.moment (are_words r.program x.moment is stands) choice fault fit
 
 -- an event is counted before software does its work, or behind it
 counted_by : (end : Option End) (d : Deed) (l : Local) → settled_by end d (with_move_counted l) ≡ with_move_counted (settled_by end d l)
@@ -201,17 +201,17 @@ counted_by None d l = refl
 counted_by (Some end) (alone t) l = refl
 counted_by (Some end) (aided vector aid) l = refl
 
-pub law : (p : Program) (named : ℕ → Bool) (limit : ℕ) (letter : Letter) (x : ExtendedMoment) → IsProgram p → LiesBehind p x.moment →
-    settled p (move p limit letter (seen_at p named x.moment)) ≡ seen_at p named (after_event p named limit letter x).moment
+pub law : (r : Run) (letter : Letter) (x : ExtendedMoment) → IsProgram r.program → LiesBehind r.program x.moment →
+    settled r.program (move r.program r.limit letter (seen_at r x.moment)) ≡ seen_at r (after_event r letter x).moment
 unfolding move after_event settled
-law p named limit letter x is stands =
-    let s : Situation = situation_along (extended_history p) named limit x.moment in
-    let l : Local = move_by (choice_of p letter s) (record_of p s) (seen_at p named x.moment) in
-    ap (λ (at : Situation). settled p (with_move_counted (move_by (choice_of p letter at) (record_of p at) (seen_at p named x.moment))))
-    (situation_seen (extended_history p) (extended_bus p) named limit x.moment)
-    ∙ counted_by l.ended (deed_seen p l) l
-    ∙ ap with_move_counted (by_choice p named x (choice_of p letter s) (record_of p s) is stands
-    (fits_along (extended_history p) named limit letter x.moment))
+law r letter x is stands =
+    let s : Situation = situation_along (extended_history r.program) r x.moment in
+    let l : Local = move_by (choice_of r.program letter s) (record_of r.program s) (seen_at r x.moment) in
+    ap (λ (at : Situation). settled r.program (with_move_counted (move_by (choice_of r.program letter at) (record_of r.program at) (seen_at r x.moment))))
+    (situation_seen (extended_history r.program) (extended_bus r.program) r x.moment)
+    ∙ counted_by l.ended (deed_seen r.program l) l
+    ∙ ap with_move_counted (by_choice r x (choice_of r.program letter s) (record_of r.program s) is stands
+    (fits_along (extended_history r.program) x.moment r letter))
 
 -- what software did joins the emulations
 pub none_new : (xs : List Emulation) (end : Option End) (d : Deed) (l : Local) → NoAid end d → xs ++ emulated_by end d l ≡ xs
@@ -219,32 +219,32 @@ none_new xs None d l h = append-nil xs
 none_new xs (Some end) (alone t) l h = append-nil xs
 none_new xs (Some end) (aided vector aid) l h = absurd h
 
-joins_stop : (p : Program) (named : ℕ → Bool) (x : ExtendedMoment) (end : End) (d : Deed) →
-    x.emulated ++ emulated_by (Some end) d (with_move_counted (record (seen_at p named x.moment) { ended = Some end }))
-    ≡ (after_stop d p x).emulated
+joins_stop : (r : Run) (x : ExtendedMoment) (end : End) (d : Deed) →
+    x.emulated ++ emulated_by (Some end) d (with_move_counted (record (seen_at r x.moment) { ended = Some end }))
+    ≡ (after_stop d r.program x).emulated
 unfolding completed_state
-joins_stop p named x end (alone t) = append-nil x.emulated
-joins_stop p named x end (aided vector aid) = refl
+joins_stop r x end (alone t) = append-nil x.emulated
+joins_stop r x end (aided vector aid) = refl
 
-joins_choice : (p : Program) (named : ℕ → Bool) (x : ExtendedMoment) (choice : Choice) (fault : Record) → IsProgram p →
-    LiesBehind p x.moment → FitsAlong (extended_history p) x.moment choice →
-    x.emulated ++ newly_emulated p (with_move_counted (move_by choice fault (seen_at p named x.moment)))
-    ≡ (after_chosen p choice fault x).emulated
+joins_choice : (r : Run) (x : ExtendedMoment) (choice : Choice) (fault : Record) → IsProgram r.program →
+    LiesBehind r.program x.moment → FitsAlong (extended_history r.program) x.moment choice →
+    x.emulated ++ newly_emulated r.program (with_move_counted (move_by choice fault (seen_at r x.moment)))
+    ≡ (after_chosen r.program choice fault x).emulated
 unfolding newly_emulated
-joins_choice p named x (finishes stop) fault is stands fit =
+joins_choice r x (finishes stop) fault is stands fit =
     ap (λ (d : Deed). x.emulated
-    ++ emulated_by (Some (end_by stop)) d (with_move_counted (record (seen_at p named x.moment) { ended = Some (end_by stop) })))
-    (seen_deed p named x.moment is)
-    ∙ joins_stop p named x (end_by stop) (deed_at p (extended_state p x.moment.retired))
-joins_choice p named x choice fault is stands fit =
-    none_new x.emulated _ _ _ (left p named x.moment choice fault is stands fit tt)
+    ++ emulated_by (Some (end_by stop)) d (with_move_counted (record (seen_at r x.moment) { ended = Some (end_by stop) })))
+    (seen_deed r x.moment is)
+    ∙ joins_stop r x (end_by stop) (deed_at r.program (extended_state r.program x.moment.retired))
+joins_choice r x choice fault is stands fit =
+    none_new x.emulated _ _ _ (left r x.moment choice fault is stands fit tt)
 
-pub joins : (p : Program) (named : ℕ → Bool) (limit : ℕ) (letter : Letter) (x : ExtendedMoment) → IsProgram p → LiesBehind p x.moment →
-    x.emulated ++ newly_emulated p (move p limit letter (seen_at p named x.moment)) ≡ (after_event p named limit letter x).emulated
+pub joins : (r : Run) (letter : Letter) (x : ExtendedMoment) → IsProgram r.program → LiesBehind r.program x.moment →
+    x.emulated ++ newly_emulated r.program (move r.program r.limit letter (seen_at r x.moment)) ≡ (after_event r letter x).emulated
 unfolding move after_event
-joins p named limit letter x is stands =
-    let s : Situation = situation_along (extended_history p) named limit x.moment in
+joins r letter x is stands =
+    let s : Situation = situation_along (extended_history r.program) r x.moment in
     ap (λ (at : Situation). x.emulated
-    ++ newly_emulated p (with_move_counted (move_by (choice_of p letter at) (record_of p at) (seen_at p named x.moment))))
-    (situation_seen (extended_history p) (extended_bus p) named limit x.moment)
-    ∙ joins_choice p named x (choice_of p letter s) (record_of p s) is stands (fits_along (extended_history p) named limit letter x.moment)
+    ++ newly_emulated r.program (with_move_counted (move_by (choice_of r.program letter at) (record_of r.program at) (seen_at r x.moment))))
+    (situation_seen (extended_history r.program) (extended_bus r.program) r x.moment)
+    ∙ joins_choice r x (choice_of r.program letter s) (record_of r.program s) is stands (fits_along (extended_history r.program) x.moment r letter)

@@ -62,20 +62,12 @@ stores_agree (t ∷ ts) memory bytes single =
 -- what software stores, it stores byte by byte
 single_unaligned : (op : MemOp) (d : Reg) (place : ℕ) (regs : List ℕ) (memory : ℕ → ℕ) →
     IfSome (unaligned op d place regs memory) (λ aid. AreSingle aid.stores)
-single_unaligned memop.XmemBu d place regs memory = tt
-single_unaligned memop.Xmem d place regs memory = tt
-single_unaligned memop.LdHu d place regs memory = tt
-single_unaligned memop.LdBu d place regs memory = tt
-single_unaligned memop.LdD d place regs memory = tt
-single_unaligned memop.Ld d place regs memory = tt
-single_unaligned memop.LdH d place regs memory = tt
-single_unaligned memop.LdB d place regs memory = tt
 single_unaligned memop.StD d place regs memory =
     single_more (byte_stores (register regs d) (places_from place 4)) _ (single_bytes (register regs d) (places_from place 4))
     (single_bytes (register regs (register_after d)) (places_from (after_bytes place 4) 4))
 single_unaligned memop.St d place regs memory = single_bytes (register regs d) (places_from place 4)
 single_unaligned memop.StH d place regs memory = single_bytes (register regs d) (places_from place 2)
-single_unaligned memop.StB d place regs memory = tt
+single_unaligned _ d place regs memory = tt
 
 single_where : (there : Bool) (aid : Option Aid) → IfSome aid (λ aid. AreSingle aid.stores) →
     IfSome (if there then aid else None) (λ aid. AreSingle aid.stores)
@@ -114,10 +106,8 @@ single_at None vector regs memory = tt
 single_at (Some i) vector regs memory = single_where (raises_with i regs vector) _ (single_aid i vector regs memory)
 
 pub single_deed : (turn : Turn) (i : Option Instr) (regs : List ℕ) (memory : ℕ → ℕ) → IsSingle (deed_of turn i regs memory)
-single_deed (changes change) i regs memory = tt
-single_deed (outputs byte) i regs memory = tt
-single_deed (stops (exits at)) i regs memory = tt
 single_deed (stops (by_vector vector at)) i regs memory = single_found vector at _ (single_at i vector regs memory)
+single_deed _ i regs memory = tt
 
 -- memory stays bytes
 deed_bytes : (d : Deed) (s : State) → AreBytes s.memory → AreBytes (after_deed d s).memory

@@ -57,30 +57,12 @@ NoVector (Some (Vector vector at)) = ⊥
 NoVector _ = Unit {0}
 
 by_said : (h : Happened) → vector_in h ≡ None → NoVector (end_after h None)
-by_said happened.Issued none = tt
-by_said happened.Bubble none = tt
-by_said (happened.Stalled why) none = tt
-by_said happened.Answered none = tt
-by_said (happened.Faulted fault) none = tt
-by_said happened.Evicted none = tt
-by_said happened.Idle none = tt
-by_said (happened.Served byte) none = tt
-by_said (happened.Ended Limit) none = tt
-by_said (happened.Ended (Exit at)) none = tt
 by_said (happened.Ended (Vector vector at)) none = absurd cc
+by_said _ none = tt
 
 pub vector_there : (h : Happened) (vector : ℕ) → vector_in h ≡ Some vector → (at : ℕ) × (end_after h None ≡ Some (Vector vector at))
-vector_there happened.Issued vector e = absurd cc
-vector_there happened.Bubble vector e = absurd cc
-vector_there (happened.Stalled why) vector e = absurd cc
-vector_there happened.Answered vector e = absurd cc
-vector_there (happened.Faulted fault) vector e = absurd cc
-vector_there happened.Evicted vector e = absurd cc
-vector_there happened.Idle vector e = absurd cc
-vector_there (happened.Served byte) vector e = absurd cc
-vector_there (happened.Ended Limit) vector e = absurd cc
-vector_there (happened.Ended (Exit at)) vector e = absurd cc
 vector_there (happened.Ended (Vector v at)) vector e = let same : v ≡ vector = cc in (at, ap (λ (n : ℕ). Some (Vector n at)) same)
+vector_there _ vector e = absurd cc
 
 pub ends_if : (v : Option ℕ) (h : Happened) (end : Option End) → v ≡ vector_in h → end ≡ end_after h None →
     IfSome v (λ vector. (at : ℕ) × (end ≡ Some (Vector vector at)))
@@ -91,10 +73,8 @@ ends_if (Some vector) h end is ended =
 
 -- a turn that ends a program otherwise than by a vector is the machine's alone
 alone_turn : (t : Turn) (i : Option Instr) (regs : List ℕ) (memory : ℕ → ℕ) → NoVector (Some (end_of_turn t)) → IsAlone (deed_of t i regs memory)
-alone_turn (changes change) i regs memory h = tt
-alone_turn (outputs byte) i regs memory h = tt
-alone_turn (stops (exits at)) i regs memory h = tt
 alone_turn (stops (by_vector vector at)) i regs memory h = absurd h
+alone_turn _ i regs memory h = tt
 
 no_aid_by : (p : Program) (b : BoardView) (end : Option End) → IsProgramOf b.memory.image p → IfSome end (EndsSo b) → NoVector end →
     NoAid end (deed_seen p (local_of b))
@@ -122,13 +102,11 @@ none_joins p b xs none = none_new xs b.ended (deed_seen p (local_of b)) (local_o
 
 -- what becomes of the instruction at which a board ended by a vector
 ends_by : (t : Turn) (vector at : ℕ) → end_of_turn t ≡ Vector vector at → t ≡ stops (by_vector vector at)
-ends_by (changes change) vector at e = absurd cc
-ends_by (outputs byte) vector at e = absurd cc
-ends_by (stops (exits here)) vector at e = absurd cc
 ends_by (stops (by_vector v here)) vector at e =
     let one : v ≡ vector = cc in
     let two : here ≡ at = cc in
     ap₂ (λ (n m : ℕ). stops (by_vector n m)) one two
+ends_by _ vector at e = absurd cc
 
 pub completed_empty : (b : BoardView) → b.pending ≡ [] →
     completed_of b ≡ record {

@@ -82,21 +82,13 @@ pub task_open : (t : Task) (ready absent before : ℕ → Bool) →
     absent ≡ (λ page. before page && not (has_place_in (task_places t) page)) →
     AreOpen ready absent (stored_places t)
 unfolding AreOpen
-task_open (task.Divide d quotient) ready absent before prepared supplied = tt
-task_open (task.LoadHalf d place signed) ready absent before prepared supplied = tt
-task_open (task.LoadWord d place) ready absent before prepared supplied = tt
-task_open (task.LoadDouble d place) ready absent before prepared supplied = tt
 task_open (task.StoreHalf value place) ready absent before prepared supplied = open_by ready absent before (places_from place 2) prepared supplied
 task_open (task.StoreWord value place) ready absent before prepared supplied = open_by ready absent before (places_from place 4) prepared supplied
 task_open (task.StoreDouble value second place) ready absent before prepared supplied =
     open_by ready absent before (places_from place 8) prepared supplied
+task_open _ ready absent before prepared supplied = tt
 
 -- the places that a task touches are those of its aid
 pub same_places : (t : Task) (memory : ℕ → ℕ) → task_places t ≡ (aid_by t memory).places
 same_places (task.Divide d quotient) memory = refl
-same_places (task.LoadHalf d place signed) memory = refl
-same_places (task.LoadWord d place) memory = refl
-same_places (task.LoadDouble d place) memory = refl
-same_places (task.StoreHalf value place) memory = refl
-same_places (task.StoreWord value place) memory = refl
-same_places (task.StoreDouble value second place) memory = refl
+same_places _ memory = refl

@@ -1,5 +1,5 @@
 -- What lies behind a moment stays so.
-use Rattle.std.specs.Prelude.{ℕ, Bool, false, ◌≡◌, ◌≤◌, ◌+◌, length, map}
+use Rattle.std.specs.Prelude.{Bool, false, ◌≡◌, ◌≤◌, ◌+◌, length, map}
 use Rattle.std.proofs.Common.{arith, length-append, sym, ap, subst, ◌∙◌, refl}
 use Rattle.std.proofs.lemmas.List.{length-drop}
 use Rattle.m88_isa.specs.History.{turn_accesses}
@@ -8,7 +8,7 @@ use Rattle.m88_isa.specs.Memory.{access_of}
 use Rattle.m88_event.proofs.Laws.{FitsAlong, IsLastChoice, fits_along, nothing_left, precise_choice}
 use Rattle.m88_event.specs.Choice.{Choice, choice_of, evicts, faults, finishes, holds, idles, issues, passes, replies, serves}
 use Rattle.m88_event.specs.Situation.{Situation, record_of}
-use Rattle.m88_event.specs.Timeline.{Moment, opening_moment, pending_along, situation_along}
+use Rattle.m88_event.specs.Timeline.{Moment, Run, opening_moment, pending_along, situation_along}
 use Rattle.m88_event.specs.declared.letter.Letter.{Letter}
 use Rattle.m88_event.specs.declared.record.Record.{Record}
 use Rattle.m88_emul.proofs.Following.{aided_made, aided_work, deed_goes, more_made, more_work}
@@ -54,9 +54,7 @@ stands_choice : (p : Program) (x : ExtendedMoment) (choice : Choice) (fault : Re
     FitsAlong (extended_history p) x.moment choice →
     (IsLastChoice choice → length (transactions_before p x.moment.retired) ≤ x.moment.done) →
     LiesBehind p (after_chosen p choice fault x).moment
-stands_choice p x idles fault stands fit last = stands
 stands_choice p x passes fault stands fit last = record { within = stands.within; mended = stands.mended; ended = stands.ended }
-stands_choice p x (holds why) fault stands fit last = stands
 stands_choice p x (issues change) fault stands fit last =
     stands_alone p x.moment (changes change) change.bubble stands (deed_goes p x.moment.retired (changes change) fit.0) fit.1
 stands_choice p x (serves byte) fault stands fit last =
@@ -78,14 +76,15 @@ stands_choice p x faults fault stands fit last =
       mended = mended_on m.done (m.done + length (pending_along (extended_history p) m)) (work_before p m.retired) (omega arith) stands.mended;
       ended = stands.ended;
     }
+stands_choice p x _ fault stands fit last = stands
 
-pub stands_on : (p : Program) (named : ℕ → Bool) (limit : ℕ) (letter : Letter) (x : ExtendedMoment) → LiesBehind p x.moment →
-    LiesBehind p (after_event p named limit letter x).moment
+pub stands_on : (r : Run) (letter : Letter) (x : ExtendedMoment) → LiesBehind r.program x.moment →
+    LiesBehind r.program (after_event r letter x).moment
 unfolding after_event
-stands_on p named limit letter x stands =
-    let s : Situation = situation_along (extended_history p) named limit x.moment in
-    let kept = stands_choice p x (choice_of p letter s) (record_of p s) stands (fits_along (extended_history p) named limit letter x.moment)
-    (λ last. let all = nothing_left x.moment.done (transactions_before p x.moment.retired) stands.within (precise_choice p letter s last) in
+stands_on r letter x stands =
+    let s : Situation = situation_along (extended_history r.program) r x.moment in
+    let kept = stands_choice r.program x (choice_of r.program letter s) (record_of r.program s) stands (fits_along (extended_history r.program) x.moment r letter)
+    (λ last. let all = nothing_left x.moment.done (transactions_before r.program x.moment.retired) stands.within (precise_choice r.program letter s last) in
     omega (arith, all)) in
     record { within = kept.within; mended = kept.mended; ended = kept.ended }
 

@@ -16,7 +16,7 @@ use Rattle.m88_event.specs.Past.{HasPast}
 use Rattle.m88_event.specs.Run.{IsOutcome, moment_after, moment_along, outcome_at}
 use Rattle.m88_event.specs.Shadow.{retired_pointer}
 use Rattle.m88_event.specs.Situation.{Situation, record_of}
-use Rattle.m88_event.specs.Timeline.{Moment, after_choice, after_letter, end_of_turn, is_over, is_over_along, situation_at, situation_along, with_event, xip_at, xip_along}
+use Rattle.m88_event.specs.Timeline.{Moment, Run, after_choice, after_letter, end_of_turn, is_over, is_over_along, situation_along, situation_at, with_event, xip_along, xip_at}
 use Rattle.m88_event.specs.declared.happened.End.TheVariants.{Limit}
 use Rattle.m88_event.specs.declared.letter.Letter.{Letter}
 use Rattle.m88_event.specs.declared.record.Record.{Record}
@@ -35,10 +35,8 @@ no_aid vector at None h = refl
 no_aid vector at (Some aid) h = absurd h
 
 own_turn : (t : Turn) (i : Option Instr) (regs : List ℕ) (memory : ℕ → ℕ) → IsAlone (deed_of t i regs memory) → deed_of t i regs memory ≡ alone t
-own_turn (changes change) i regs memory h = refl
-own_turn (outputs byte) i regs memory h = refl
-own_turn (stops (exits at)) i regs memory h = refl
 own_turn (stops (by_vector vector at)) i regs memory h = no_aid vector at (aid_at i vector regs memory) h
+own_turn _ i regs memory h = refl
 
 turn_alone : (p : Program) (s : State) → IsAlone (deed_at p s) → deed_at p s ≡ alone (turn_at p s)
 turn_alone p s h = own_turn (turn_at p s) (instruction_at p s.pc) s.regs s.memory h
@@ -72,14 +70,14 @@ same_xip p (suc n) none =
     ap (λ (s : State). retired_pointer s.pc) (same_state p n (fewer_unaided p n (suc n) (omega arith) none))
 
 -- what the next event depends on
-same_next : (p : Program) (named : ℕ → Bool) (limit : ℕ) (m : Moment) → IsUnaided p m.retired →
-    situation_along (extended_history p) named limit m ≡ situation_at p named limit m
+same_next : (r : Run) (m : Moment) → IsUnaided r.program m.retired →
+    situation_along (extended_history r.program) r m ≡ situation_at r m
 unfolding situation_at
-same_next p named limit m none =
-    let states = same_state p m.retired none in
-    let made = same_transactions p m.retired none in
-    let xip = same_xip p m.retired none in
-    λ i. record (situation_at p named limit m) {
+same_next r m none =
+    let states = same_state r.program m.retired none in
+    let made = same_transactions r.program m.retired none in
+    let xip = same_xip r.program m.retired none in
+    λ i. record (situation_at r m) {
       regs = (states i).regs;
       carry = (states i).carry;
       mxm = (states i).mxm;
@@ -112,43 +110,44 @@ plain_choice p m choice fault none ends =
     ap (λ (xs : List Access). plain (after_choice (drop m.done xs) choice fault m)) (same_transactions p m.retired none)
 
 -- and a letter
-abbrev choice_there : Program → (ℕ → Bool) → ℕ → Letter → Moment → Choice
-choice_there p named limit letter m = choice_of p letter (situation_at p named limit m)
+abbrev choice_there : Run → Letter → Moment → Choice
+choice_there r letter m = choice_of r.program letter (situation_at r m)
 
-plain_letter : (p : Program) (named : ℕ → Bool) (limit : ℕ) (letter : Letter) (m : Moment) → IsUnaided p m.retired →
-    (Ends (choice_there p named limit letter m) → IsAlone (deed_at p (state p m.retired))) →
-    after_event p named limit letter (plain m) ≡ plain (after_letter p named limit letter m)
+plain_letter : (r : Run) (letter : Letter) (m : Moment) → IsUnaided r.program m.retired →
+    (Ends (choice_there r letter m) → IsAlone (deed_at r.program (state r.program m.retired))) →
+    after_event r letter (plain m) ≡ plain (after_letter r letter m)
 unfolding after_event after_letter
-plain_letter p named limit letter m none ends =
-    ap (λ (s : Situation). with_event_counted (after_chosen p (choice_of p letter s) (record_of p s) (plain m)))
-    (same_next p named limit m none)
-    ∙ ap with_event_counted (plain_choice p m (choice_there p named limit letter m) (record_of p (situation_at p named limit m)) none ends)
+plain_letter r letter m none ends =
+    ap (λ (s : Situation). with_event_counted (after_chosen r.program (choice_of r.program letter s) (record_of r.program s) (plain m)))
+    (same_next r m none)
+    ∙ ap with_event_counted (plain_choice r.program m (choice_there r letter m) (record_of r.program (situation_at r m)) none ends)
 
 -- where software has no aid up to the limit, a program that ends does so before the limit
-ends_early : (p : Program) (limit : ℕ) (m : Moment) (choice : Choice) (fault : Record) → IsUnaided p limit →
-    HasPast p limit (with_event (after_choice (pending_at p m.retired m.done) choice fault m)) → Ends choice → IsAlone (deed_at p (state p m.retired))
-ends_early p limit m (finishes stop) fault none past ends = none m.retired (past.ended refl).early
-ends_early p limit m choice fault none past ends = absurd ends
+ends_early : (r : Run) (m : Moment) (choice : Choice) (fault : Record) → IsUnaided r.program r.limit →
+    HasPast r (with_event (after_choice (pending_at r.program m.retired m.done) choice fault m)) → Ends choice →
+    IsAlone (deed_at r.program (state r.program m.retired))
+ends_early r m (finishes stop) fault none past ends = none m.retired (past.ended refl).early
+ends_early r m choice fault none past ends = absurd ends
 
-ends_there : (p : Program) (named : ℕ → Bool) (limit : ℕ) (schedule : List Letter) (k : ℕ) → IsUnaided p limit →
-    Ends (choice_there p named limit (letter_at schedule k) (moment_after p named limit schedule k)) →
-    IsAlone (deed_at p (state p (moment_after p named limit schedule k).retired))
+ends_there : (r : Run) (k : ℕ) → IsUnaided r.program r.limit →
+    Ends (choice_there r (letter_at r.schedule k) (moment_after r k)) →
+    IsAlone (deed_at r.program (state r.program (moment_after r k).retired))
 unfolding moment_along after_letter
-ends_there p named limit schedule k none =
-    let m : Moment = moment_after p named limit schedule k in
-    let s : Situation = situation_at p named limit m in
-    ends_early p limit m (choice_of p (letter_at schedule k) s) (record_of p s) none (past_after p named limit schedule (suc k))
+ends_there r k none =
+    let m : Moment = moment_after r k in
+    let s : Situation = situation_at r m in
+    ends_early r m (choice_of r.program (letter_at r.schedule k) s) (record_of r.program s) none (past_after r (suc k))
 
-plain_moments : (p : Program) (named : ℕ → Bool) (limit : ℕ) (schedule : List Letter) → IsUnaided p limit → (k : ℕ) →
-    extended_after p named limit schedule k ≡ plain (moment_after p named limit schedule k)
+plain_moments : (r : Run) → IsUnaided r.program r.limit → (k : ℕ) →
+    extended_after r k ≡ plain (moment_after r k)
 unfolding extended_after moment_along
-plain_moments p named limit schedule none zero = refl
-plain_moments p named limit schedule none (suc k) =
-    let m : Moment = moment_after p named limit schedule k in
-    let within = (past_after p named limit schedule k).within in
-    ap (after_event p named limit (letter_at schedule k)) (plain_moments p named limit schedule none k)
-    ∙ plain_letter p named limit (letter_at schedule k) m (fewer_unaided p m.retired limit within none)
-    (ends_there p named limit schedule k none)
+plain_moments r none zero = refl
+plain_moments r none (suc k) =
+    let m : Moment = moment_after r k in
+    let within = (past_after r k).within in
+    ap (after_event r (letter_at r.schedule k)) (plain_moments r none k)
+    ∙ plain_letter r (letter_at r.schedule k) m (fewer_unaided r.program m.retired r.limit within none)
+    (ends_there r k none)
 
 -- what the run comes to
 plain_outcome : (p : Program) (m : Moment) → IsUnaided p m.retired → extended_outcome p (plain m) ≡ record { outcome = outcome_at p m; emulated = [] }
@@ -166,40 +165,40 @@ plain_outcome p m none =
       emulated = [];
     }
 
-over_plain : (p : Program) (limit : ℕ) (x : ExtendedMoment) (m : Moment) → x ≡ plain m → IsUnaided p m.retired →
-    is_over_along (extended_history p) limit x.moment ≡ is_over p limit m
-over_plain p limit x m same none =
-    ap (λ (y : ExtendedMoment). is_over_along (extended_history p) limit y.moment) same
-    ∙ ap (λ (xs : List Access). m.done == length xs && (m.ended || m.retired == limit)) (same_transactions p m.retired none)
+over_plain : (r : Run) (x : ExtendedMoment) (m : Moment) → x ≡ plain m → IsUnaided r.program m.retired →
+    is_over_along (extended_history r.program) r x.moment ≡ is_over r m
+over_plain r x m same none =
+    ap (λ (y : ExtendedMoment). is_over_along (extended_history r.program) r y.moment) same
+    ∙ ap (λ (xs : List Access). m.done == length xs && (m.ended || m.retired == r.limit)) (same_transactions r.program m.retired none)
 
-plain_run : (p : Program) (named : ℕ → Bool) (limit : ℕ) (schedule : List Letter) (o : EmulOutcome) → IsUnaided p limit →
-    (run : IsExtendedOutcome p named limit schedule o) →
-    o ≡ record { outcome = outcome_at p (moment_after p named limit schedule run.events); emulated = [] }
-plain_run p named limit schedule o none run =
-    let m : Moment = moment_after p named limit schedule run.events in
-    let within = (past_after p named limit schedule run.events).within in
+plain_run : (r : Run) (o : EmulOutcome) → IsUnaided r.program r.limit →
+    (run : IsExtendedOutcome r o) →
+    o ≡ record { outcome = outcome_at r.program (moment_after r run.events); emulated = [] }
+plain_run r o none run =
+    let m : Moment = moment_after r run.events in
+    let within = (past_after r run.events).within in
     run.value
-    ∙ ap (extended_outcome p) (plain_moments p named limit schedule none run.events)
-    ∙ plain_outcome p m (fewer_unaided p m.retired limit within none)
+    ∙ ap (extended_outcome r.program) (plain_moments r none run.events)
+    ∙ plain_outcome r.program m (fewer_unaided r.program m.retired r.limit within none)
 
-plain_is : (p : Program) (named : ℕ → Bool) (limit : ℕ) (schedule : List Letter) (o : EmulOutcome) → IsUnaided p limit →
-    IsExtendedOutcome p named limit schedule o → IsOutcome p named limit schedule o.outcome
-plain_is p named limit schedule o none run = record {
+plain_is : (r : Run) (o : EmulOutcome) → IsUnaided r.program r.limit →
+    IsExtendedOutcome r o → IsOutcome r o.outcome
+plain_is r o none run = record {
   events = run.events;
   run = record {
     here = sym (same_over run.events) ∙ run.run.here;
     first = λ k less. sym (same_over k) ∙ run.run.first k less;
   };
-  value = ap (λ (x : EmulOutcome). x.outcome) (plain_run p named limit schedule o none run);
+  value = ap (λ (x : EmulOutcome). x.outcome) (plain_run r o none run);
 }
   where
-    same_over : (k : ℕ) → is_over_along (extended_history p) limit (extended_after p named limit schedule k).moment
-        ≡ is_over p limit (moment_after p named limit schedule k)
+    same_over : (k : ℕ) → is_over_along (extended_history r.program) r (extended_after r k).moment
+        ≡ is_over r (moment_after r k)
     same_over k =
-        let m : Moment = moment_after p named limit schedule k in
-        let within = (past_after p named limit schedule k).within in
-        over_plain p limit (extended_after p named limit schedule k) m (plain_moments p named limit schedule none k)
-        (fewer_unaided p m.retired limit within none)
+        let m : Moment = moment_after r k in
+        let within = (past_after r k).within in
+        over_plain r (extended_after r k) m (plain_moments r none k)
+        (fewer_unaided r.program m.retired r.limit within none)
 
 -- where no emulation is listed, none was before
 not_one : (xs : List Emulation) (e : Emulation) → xs ++ (e ∷ []) ≡ [] → ⊥
@@ -215,10 +214,10 @@ none_before : (p : Program) (x : ExtendedMoment) (choice : Choice) (fault : Reco
 none_before p x (finishes stop) fault h = none_by_stop p x (deed_at p (extended_state p x.moment.retired)) h
 none_before p x choice fault h = h
 
-none_earlier : (p : Program) (named : ℕ → Bool) (limit : ℕ) (letter : Letter) (x : ExtendedMoment) →
-    (after_event p named limit letter x).emulated ≡ [] → x.emulated ≡ []
+none_earlier : (r : Run) (letter : Letter) (x : ExtendedMoment) →
+    (after_event r letter x).emulated ≡ [] → x.emulated ≡ []
 unfolding after_event
-none_earlier p named limit letter x h = none_before p x _ _ h
+none_earlier r letter x h = none_before r.program x _ _ h
 
 -- then the machine alone ended the program, if it did
 alone_by_stop : (p : Program) (m : Moment) (d : Deed) → (after_stop d p (plain m)).emulated ≡ [] → IsAlone d
@@ -231,15 +230,15 @@ ends_alone p m (finishes stop) fault none h ends =
     subst IsAlone (same_deed p m.retired none) (alone_by_stop p m (deed_at p (extended_state p m.retired)) h)
 ends_alone p m choice fault none h ends = absurd ends
 
-letter_alone : (p : Program) (named : ℕ → Bool) (limit : ℕ) (letter : Letter) (m : Moment) → IsUnaided p m.retired →
-    (after_event p named limit letter (plain m)).emulated ≡ [] →
-    Ends (choice_there p named limit letter m) → IsAlone (deed_at p (state p m.retired))
+letter_alone : (r : Run) (letter : Letter) (m : Moment) → IsUnaided r.program m.retired →
+    (after_event r letter (plain m)).emulated ≡ [] →
+    Ends (choice_there r letter m) → IsAlone (deed_at r.program (state r.program m.retired))
 unfolding after_event
-letter_alone p named limit letter m none h =
-    let s : Situation = situation_at p named limit m in
-    ends_alone p m (choice_of p letter s) (record_of p s) none
-    (sym (ap (λ (s : Situation). (after_chosen p (choice_of p letter s) (record_of p s) (plain m)).emulated)
-    (same_next p named limit m none)) ∙ h)
+letter_alone r letter m none h =
+    let s : Situation = situation_at r m in
+    ends_alone r.program m (choice_of r.program letter s) (record_of r.program s) none
+    (sym (ap (λ (s : Situation). (after_chosen r.program (choice_of r.program letter s) (record_of r.program s) (plain m)).emulated)
+    (same_next r m none)) ∙ h)
 
 -- and each instruction that was retired
 one_unaided : (p : Program) (n : ℕ) → IsUnaided p n → IsAlone (deed_at p (state p n)) → IsUnaided p (n + 1)
@@ -259,40 +258,39 @@ retired_alone p m (serves byte) fault fit none =
     one_unaided p m.retired none (turn_is_alone p (state p m.retired) (outputs byte) fit.0 tt)
 retired_alone p m choice fault fit none = none
 
-letter_retires : (p : Program) (named : ℕ → Bool) (limit : ℕ) (letter : Letter) (m : Moment) → IsUnaided p m.retired →
-    IsUnaided p (after_letter p named limit letter m).retired
+letter_retires : (r : Run) (letter : Letter) (m : Moment) → IsUnaided r.program m.retired →
+    IsUnaided r.program (after_letter r letter m).retired
 unfolding after_letter
-letter_retires p named limit letter m none =
-    let s : Situation = situation_at p named limit m in
-    retired_alone p m (choice_of p letter s) (record_of p s) (fits p named limit letter m) none
+letter_retires r letter m none =
+    let s : Situation = situation_at r m in
+    retired_alone r.program m (choice_of r.program letter s) (record_of r.program s) (fits r letter m) none
 
 -- so that the run was plain
-record IsPlainTo (p : Program) (named : ℕ → Bool) (limit : ℕ) (schedule : List Letter) (k : ℕ) : Type 0 where
-  pub none : IsUnaided p (moment_after p named limit schedule k).retired
-  pub same : extended_after p named limit schedule k ≡ plain (moment_after p named limit schedule k)
+record IsPlainTo (r : Run) (k : ℕ) : Type 0 where
+  pub none : IsUnaided r.program (moment_after r k).retired
+  pub same : extended_after r k ≡ plain (moment_after r k)
 
-plain_to : (p : Program) (named : ℕ → Bool) (limit : ℕ) (schedule : List Letter) (k : ℕ) →
-    (extended_after p named limit schedule k).emulated ≡ [] → IsPlainTo p named limit schedule k
+plain_to : (r : Run) (k : ℕ) →
+    (extended_after r k).emulated ≡ [] → IsPlainTo r k
 unfolding extended_after moment_along
-plain_to p named limit schedule zero h = record { none = λ k less. absurd (omega (arith, less)); same = refl }
-plain_to p named limit schedule (suc k) h =
-    let letter : Letter = letter_at schedule k in
-    let x : ExtendedMoment = extended_after p named limit schedule k in
-    let m : Moment = moment_after p named limit schedule k in
-    let before = plain_to p named limit schedule k (none_earlier p named limit letter x h) in
-    let still = subst (λ (y : ExtendedMoment). (after_event p named limit letter y).emulated ≡ []) before.same h in
+plain_to r zero h = record { none = λ k less. absurd (omega (arith, less)); same = refl }
+plain_to r (suc k) h =
+    let letter : Letter = letter_at r.schedule k in
+    let x : ExtendedMoment = extended_after r k in
+    let m : Moment = moment_after r k in
+    let before = plain_to r k (none_earlier r letter x h) in
+    let still = subst (λ (y : ExtendedMoment). (after_event r letter y).emulated ≡ []) before.same h in
     record {
-      none = letter_retires p named limit letter m before.none;
+      none = letter_retires r letter m before.none;
       same =
-          ap (after_event p named limit letter) before.same
-          ∙ plain_letter p named limit letter m before.none (letter_alone p named limit letter m before.none still);
+          ap (after_event r letter) before.same
+          ∙ plain_letter r letter m before.none (letter_alone r letter m before.none still);
     }
 
 -- from the end on nothing comes
 stop_stays : (t : Turn) (s : State) → is_stop t ≡ true → state_after (stepped t s) s ≡ s
-stop_stays (changes change) s h = absurd cc
-stop_stays (outputs byte) s h = absurd cc
 stop_stays (stops stop) s h = refl
+stop_stays _ s h = absurd cc
 
 stays_ended : (p : Program) (n more : ℕ) → is_stop (turn_at p (state p n)) ≡ true → state p (n + more) ≡ state p n
 unfolding state
@@ -312,41 +310,42 @@ ended_unaided p n limit none stop here = λ k less. by_test (nat_lt k n)
     let e : n + (k - n) ≡ k = omega (arith, behind) in
     subst (λ (s : State). IsAlone (deed_at p s)) (sym (ap (state p) (sym e) ∙ stays_ended p n (k - n) stop)) here)
 
-stands_along : (p : Program) (named : ℕ → Bool) (limit : ℕ) (schedule : List Letter) (k : ℕ) →
-    LiesBehind p (extended_after p named limit schedule k).moment
+stands_along : (r : Run) (k : ℕ) →
+    LiesBehind r.program (extended_after r k).moment
 unfolding extended_after
-stands_along p named limit schedule zero = stands_first p
-stands_along p named limit schedule (suc k) =
-    stands_on p named limit (letter_at schedule k) (extended_after p named limit schedule k) (stands_along p named limit schedule k)
+stands_along r zero = stands_first r.program
+stands_along r (suc k) =
+    stands_on r (letter_at r.schedule k) (extended_after r k) (stands_along r k)
 
-over_by : (p : Program) (limit : ℕ) (m : Moment) (ended : Bool) → m.ended ≡ ended → HasPast p limit m → IsUnaided p m.retired →
-    (m.ended ≡ true → IsAlone (deed_at p (state p m.retired))) → (ended || m.retired == limit) ≡ true → IsUnaided p limit
-over_by p limit m true is past none here idle = ended_unaided p m.retired limit none (past.ended is).next (here is)
-over_by p limit m false is past none here idle = subst (IsUnaided p) (eqb-true m.retired limit idle) none
+over_by : (r : Run) (m : Moment) (ended : Bool) → m.ended ≡ ended → HasPast r m → IsUnaided r.program m.retired →
+    (m.ended ≡ true → IsAlone (deed_at r.program (state r.program m.retired))) → (ended || m.retired == r.limit) ≡ true →
+    IsUnaided r.program r.limit
+over_by r m true is past none here idle = ended_unaided r.program m.retired r.limit none (past.ended is).next (here is)
+over_by r m false is past none here idle = subst (IsUnaided r.program) (eqb-true m.retired r.limit idle) none
 
-none_listed : (p : Program) (named : ℕ → Bool) (limit : ℕ) (schedule : List Letter) (o : EmulOutcome) →
-    IsExtendedOutcome p named limit schedule o → o.emulated ≡ [] → IsUnaided p limit
+none_listed : (r : Run) (o : EmulOutcome) →
+    IsExtendedOutcome r o → o.emulated ≡ [] → IsUnaided r.program r.limit
 unfolding extended_outcome
-none_listed p named limit schedule o run h =
+none_listed r o run h =
     let k = run.events in
-    let x : ExtendedMoment = extended_after p named limit schedule k in
-    let m : Moment = moment_after p named limit schedule k in
+    let x : ExtendedMoment = extended_after r k in
+    let m : Moment = moment_after r k in
     let listed : x.emulated ≡ [] = sym (ap (λ (y : EmulOutcome). y.emulated) run.value) ∙ h in
-    let to = plain_to p named limit schedule k listed in
-    let over : is_over p limit m ≡ true = sym (over_plain p limit x m to.same to.none) ∙ run.run.here in
-    let stands : LiesBehind p m = subst (λ (y : ExtendedMoment). LiesBehind p y.moment) to.same (stands_along p named limit schedule k) in
-    over_by p limit m m.ended refl (past_after p named limit schedule k) to.none
-    (λ ended. subst IsAlone (same_deed p m.retired to.none) (stands.ended ended))
-    (second_of (m.done == transaction_count p m.retired) (m.ended || m.retired == limit) over)
+    let to = plain_to r k listed in
+    let over : is_over r m ≡ true = sym (over_plain r x m to.same to.none) ∙ run.run.here in
+    let stands : LiesBehind r.program m = subst (λ (y : ExtendedMoment). LiesBehind r.program y.moment) to.same (stands_along r k) in
+    over_by r m m.ended refl (past_after r k) to.none
+    (λ ended. subst IsAlone (same_deed r.program m.retired to.none) (stands.ended ended))
+    (second_of (m.done == transaction_count r.program m.retired) (m.ended || m.retired == r.limit) over)
 
 -- the law
-pub plain_unaided : (p : Program) (named : ℕ → Bool) (limit : ℕ) (schedule : List Letter) (o : EmulOutcome) →
-    IsExtendedOutcome p named limit schedule o → IsPlainUnaided p named limit schedule o
-plain_unaided p named limit schedule o run = record {
+pub plain_unaided : (r : Run) (o : EmulOutcome) →
+    IsExtendedOutcome r o → IsPlainUnaided r o
+plain_unaided r o run = record {
   none = (
-    none_listed p named limit schedule o run,
-    λ none. ap (λ (x : EmulOutcome). x.emulated) (plain_run p named limit schedule o none run),
+    none_listed r o run,
+    λ none. ap (λ (x : EmulOutcome). x.emulated) (plain_run r o none run),
   );
-  moments = plain_moments p named limit schedule;
-  outcome = λ none. plain_is p named limit schedule o none run;
+  moments = plain_moments r;
+  outcome = λ none. plain_is r o none run;
 }

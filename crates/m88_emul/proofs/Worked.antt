@@ -20,7 +20,7 @@ use Rattle.m88_event.proofs.Laws.{fault, first_after, im, mem, regs, set_from, t
 use Rattle.m88_event.specs.Letters.{letter_at}
 use Rattle.m88_event.specs.Run.{IsFirst}
 use Rattle.m88_event.specs.Situation.{record_of}
-use Rattle.m88_event.specs.Timeline.{is_over_along, xip_along}
+use Rattle.m88_event.specs.Timeline.{Run, is_over_along, run_with, xip_along}
 use Rattle.m88_event.specs.declared.happened.End.{End}
 use Rattle.m88_event.specs.declared.happened.End.TheVariants.{Exit, Limit, Vector}
 use Rattle.m88_event.specs.declared.letter.Letter.{Letter}
@@ -70,9 +70,13 @@ pub record Worked : Type 0 where
 abbrev program_of : Worked → Program
 program_of w = program w.code w.bytes
 
+-- its run
+abbrev run_of : Worked → Run
+run_of w = run_with (program_of w) w.pages w.limit w.schedule
+
 -- the moment after as many events
 abbrev moment_of : Worked → ℕ → ExtendedMoment
-moment_of w = extended_after (program_of w) w.pages w.limit w.schedule
+moment_of w = extended_after (run_of w)
 
 -- some words by address
 abbrev words_at : List (ℕ × ℕ) → (ℕ → ℕ) → List (ℕ × ℕ)
@@ -102,7 +106,7 @@ came w = came_by w (last_of w) (extended_outcome (program_of w) (last_of w))
 
 -- a run is over after so many events
 abbrev over_at : Worked → ℕ → Bool
-over_at w k = is_over_along (extended_history (program_of w)) w.limit (moment_of w k).moment
+over_at w k = is_over_along (extended_history (program_of w)) (run_of w) (moment_of w k).moment
 
 -- the least such number below the one by hand, and whether that one is such
 abbrev over_before : Worked → Option ℕ
@@ -123,205 +127,102 @@ based op d s1 imm = Some (instr.MemImm op (reg_of d) (reg_of s1) imm)
 abbrev emulation : ℕ → ℕ → ℕ → Emulation
 emulation event at vector = record { event = event; at = at; vector = vector }
 
+-- what a run comes to at its limit, in so many events: nothing else is seen
+abbrev limited : ℕ → ℕ → List (ℕ × ℕ) → ℕ → Came
+limited events retired registers answers = record {
+  end = Limit;
+  retired = retired;
+  registers = registers;
+  words = [];
+  bus = [];
+  events = events;
+  answers = answers;
+  records = [];
+  emulated = [];
+}
+
+-- a run of some instructions with a limit: no data, no absent page, no schedule
+abbrev plain_run : List (Option Instr) → ℕ → Came → Worked
+plain_run code limit comes = record { code = code; bytes = []; pages = no_page; limit = limit; schedule = []; comes = comes }
+
 -- a division of a negative number, and an exit
 divided : Worked
-divided = record {
-  code =
-      im immop.Subu 2 0 6 ∷ im immop.Or 3 0 2 ∷ regs regop.Div 4 2 3 ∷ im immop.Or 9 0 0x63
-      ∷ Some (instr.TrapBit false 0 (reg_of 0) 496) ∷ [];
-  bytes = [];
-  pages = no_page;
-  limit = 9;
-  schedule = [];
-  comes = record {
-    end = Exit 0x1010;
-    retired = 4;
-    registers = (2, 0xFFFFFFFA) ∷ (3, 2) ∷ (4, 0xFFFFFFFD) ∷ (9, 0x63) ∷ [];
-    words = [];
-    bus = [];
-    events = 10;
-    answers = 0;
-    records = [];
-    emulated = emulation 6 0x1008 8 ∷ [];
-  };
-}
+divided =
+    plain_run (im immop.Subu 2 0 6 ∷ im immop.Or 3 0 2 ∷ regs regop.Div 4 2 3 ∷ im immop.Or 9 0 0x63 ∷ Some (instr.TrapBit false 0 (reg_of 0) 496) ∷ []) 9
+    (record (limited 10 4 ((2, 0xFFFFFFFA) ∷ (3, 2) ∷ (4, 0xFFFFFFFD) ∷ (9, 0x63) ∷ []) 0) { end = Exit 0x1010; emulated = emulation 6 0x1008 8 ∷ [] })
 
 -- a load that isn't aligned, whose page is absent
 loaded : Worked
-loaded = record {
-  code = mem memop.Ld 2 0x2001 ∷ [];
-  bytes = 0x11 ∷ 0x22 ∷ 0x33 ∷ 0x44 ∷ 0x55 ∷ 0x66 ∷ 0x77 ∷ 0x88 ∷ [];
-  pages = λ page. page == 2;
-  limit = 1;
-  schedule = i ∷ [];
-  comes = record {
-    end = Limit;
-    retired = 1;
-    registers = (2, 0x22334455) ∷ [];
-    words = [];
-    bus = [];
-    events = 1;
-    answers = 0;
-    records = [];
-    emulated = emulation 1 0x1000 4 ∷ [];
-  };
-}
+loaded =
+    record (plain_run (mem memop.Ld 2 0x2001 ∷ []) 1
+    (record (limited 1 1 ((2, 0x22334455) ∷ []) 0) { emulated = emulation 1 0x1000 4 ∷ [] })) {
+      bytes = 0x11 ∷ 0x22 ∷ 0x33 ∷ 0x44 ∷ 0x55 ∷ 0x66 ∷ 0x77 ∷ 0x88 ∷ [];
+      pages = λ page. page == 2;
+      schedule = i ∷ [];
+    }
 
 -- software supplies a page, from which a load is answered; then every page is made absent, and the next one faults
 supplied : Worked
-supplied = record {
-  code = mem memop.Ld 2 0x2001 ∷ mem memop.Ld 3 0x2004 ∷ mem memop.Ld 4 0x2000 ∷ [];
-  bytes = 0x11 ∷ 0x22 ∷ 0x33 ∷ 0x44 ∷ 0x55 ∷ 0x66 ∷ 0x77 ∷ 0x88 ∷ [];
-  pages = λ page. page == 2;
-  limit = 3;
-  schedule = i ∷ i ∷ r ∷ e ∷ i ∷ r ∷ [];
-  comes = record {
-    end = Limit;
-    retired = 3;
-    registers = (2, 0x22334455) ∷ (3, 0x55667788) ∷ (4, 0x11223344) ∷ [];
-    words = [];
-    bus = [];
-    events = 6;
-    answers = 1;
-    records = fault 6 0x100A 0x100F 0x1013 0x10 (triple 0x23D 0 0x2000 ∷ no_triple ∷ no_triple ∷ []) ∷ [];
-    emulated = emulation 1 0x1000 4 ∷ [];
-  };
-}
+supplied =
+    record (plain_run (mem memop.Ld 2 0x2001 ∷ mem memop.Ld 3 0x2004 ∷ mem memop.Ld 4 0x2000 ∷ []) 3
+    (record (limited 6 3 ((2, 0x22334455) ∷ (3, 0x55667788) ∷ (4, 0x11223344) ∷ []) 1) { records = fault 6 0x100A 0x100F 0x1013 0x10 (triple 0x23D 0 0x2000 ∷ no_triple ∷ no_triple ∷ []) ∷ []; emulated = emulation 1 0x1000 4 ∷ [] })) {
+      bytes = 0x11 ∷ 0x22 ∷ 0x33 ∷ 0x44 ∷ 0x55 ∷ 0x66 ∷ 0x77 ∷ 0x88 ∷ [];
+      pages = λ page. page == 2;
+      schedule = i ∷ i ∷ r ∷ e ∷ i ∷ r ∷ [];
+    }
 
 -- software waits until nothing is pending, and a fault comes before it
 waited : Worked
-waited = record {
-  code = mem memop.Ld 2 0x5000 ∷ mem memop.Ld 3 0x2001 ∷ [];
-  bytes = 0x11 ∷ 0x22 ∷ 0x33 ∷ 0x44 ∷ 0x55 ∷ 0x66 ∷ 0x77 ∷ 0x88 ∷ [];
-  pages = λ page. page == 5;
-  limit = 2;
-  schedule = i ∷ i ∷ r ∷ i ∷ [];
-  comes = record {
-    end = Limit;
-    retired = 2;
-    registers = (3, 0x22334455) ∷ [];
-    words = [];
-    bus = [];
-    events = 4;
-    answers = 0;
-    records = fault 3 0x1002 0x1006 0x100B 4 (triple 0x13D 0 0x5000 ∷ no_triple ∷ no_triple ∷ []) ∷ [];
-    emulated = emulation 4 0x1004 4 ∷ [];
-  };
-}
+waited =
+    record (plain_run (mem memop.Ld 2 0x5000 ∷ mem memop.Ld 3 0x2001 ∷ []) 2
+    (record (limited 4 2 ((3, 0x22334455) ∷ []) 0) { records = fault 3 0x1002 0x1006 0x100B 4 (triple 0x13D 0 0x5000 ∷ no_triple ∷ no_triple ∷ []) ∷ []; emulated = emulation 4 0x1004 4 ∷ [] })) {
+      bytes = 0x11 ∷ 0x22 ∷ 0x33 ∷ 0x44 ∷ 0x55 ∷ 0x66 ∷ 0x77 ∷ 0x88 ∷ [];
+      pages = λ page. page == 5;
+      schedule = i ∷ i ∷ r ∷ i ∷ [];
+    }
 
 -- a store over the last byte of memory goes on at the first; both pages are present then
 around : Worked
-around = record {
-  code =
-      im immop.OrU 4 0 0x1122 ∷ im immop.Or 4 4 0x3344 ∷ im immop.Subu 3 0 4 ∷ based memop.St 4 3 2
-      ∷ based memop.Ld 5 3 0 ∷ mem memop.Ld 6 0 ∷ [];
-  bytes = [];
-  pages = every_page;
-  limit = 6;
-  schedule = i ∷ i ∷ i ∷ i ∷ i ∷ i ∷ r ∷ r ∷ [];
-  comes = record {
-    end = Limit;
-    retired = 6;
-    registers = (3, 0xFFFFFFFC) ∷ (4, 0x11223344) ∷ (5, 0x1122) ∷ (6, 0x33440000) ∷ [];
-    words = (0xFFFFFFFC, 0x1122) ∷ (0, 0x33440000) ∷ (4, 0) ∷ [];
-    bus = (0xFFFFFFFC, 0x1122) ∷ (0, 0x33440000) ∷ (4, 0) ∷ [];
-    events = 8;
-    answers = 2;
-    records = [];
-    emulated = emulation 4 0x100C 4 ∷ [];
-  };
-}
+around =
+    record (plain_run (im immop.OrU 4 0 0x1122 ∷ im immop.Or 4 4 0x3344 ∷ im immop.Subu 3 0 4 ∷ based memop.St 4 3 2 ∷ based memop.Ld 5 3 0 ∷ mem memop.Ld 6 0 ∷ []) 6
+    (record (limited 8 6 ((3, 0xFFFFFFFC) ∷ (4, 0x11223344) ∷ (5, 0x1122) ∷ (6, 0x33440000) ∷ []) 2) { words = (0xFFFFFFFC, 0x1122) ∷ (0, 0x33440000) ∷ (4, 0) ∷ []; bus = (0xFFFFFFFC, 0x1122) ∷ (0, 0x33440000) ∷ (4, 0) ∷ []; emulated = emulation 4 0x100C 4 ∷ [] })) {
+      pages = every_page;
+      schedule = i ∷ i ∷ i ∷ i ∷ i ∷ i ∷ r ∷ r ∷ [];
+    }
 
 -- a transaction stores a word, software changes its middle, and a transaction loads it
 between : Worked
-between = record {
-  code =
-      im immop.OrU 4 0 0x1122 ∷ im immop.Or 4 4 0x3344 ∷ mem memop.St 4 0x5000 ∷ mem memop.StH 4 0x5001
-      ∷ mem memop.Ld 5 0x5000 ∷ [];
-  bytes = [];
-  pages = no_page;
-  limit = 5;
-  schedule = i ∷ i ∷ i ∷ i ∷ r ∷ i ∷ i ∷ r ∷ [];
-  comes = record {
-    end = Limit;
-    retired = 5;
-    registers = (4, 0x11223344) ∷ (5, 0x11334444) ∷ [];
-    words = (0x5000, 0x11334444) ∷ [];
-    bus = (0x5000, 0x11334444) ∷ [];
-    events = 8;
-    answers = 2;
-    records = [];
-    emulated = emulation 6 0x100C 4 ∷ [];
-  };
-}
+between =
+    record (plain_run (im immop.OrU 4 0 0x1122 ∷ im immop.Or 4 4 0x3344 ∷ mem memop.St 4 0x5000 ∷ mem memop.StH 4 0x5001 ∷ mem memop.Ld 5 0x5000 ∷ []) 5
+    (record (limited 8 5 ((4, 0x11223344) ∷ (5, 0x11334444) ∷ []) 2) { words = (0x5000, 0x11334444) ∷ []; bus = (0x5000, 0x11334444) ∷ []; emulated = emulation 6 0x100C 4 ∷ [] })) {
+      schedule = i ∷ i ∷ i ∷ i ∷ r ∷ i ∷ i ∷ r ∷ [];
+    }
 
 -- a quotient rounded towards 0, and one that is too large, which ends the program
 rounded : Worked
-rounded = record {
-  code =
-      im immop.Subu 2 0 7 ∷ im immop.Or 3 0 2 ∷ regs regop.Div 4 2 3 ∷ im immop.OrU 2 0 0x8000 ∷ im immop.Subu 3 0 1
-      ∷ regs regop.Div 5 2 3 ∷ [];
-  bytes = [];
-  pages = no_page;
-  limit = 9;
-  schedule = i ∷ i ∷ i ∷ i ∷ i ∷ i ∷ [];
-  comes = record {
-    end = Vector 8 0x1014;
-    retired = 5;
-    registers = (2, 0x80000000) ∷ (3, 0xFFFFFFFF) ∷ (4, 0xFFFFFFFD) ∷ [];
-    words = [];
-    bus = [];
-    events = 6;
-    answers = 0;
-    records = [];
-    emulated = emulation 3 0x1008 8 ∷ [];
-  };
-}
+rounded =
+    record (plain_run (im immop.Subu 2 0 7 ∷ im immop.Or 3 0 2 ∷ regs regop.Div 4 2 3 ∷ im immop.OrU 2 0 0x8000 ∷ im immop.Subu 3 0 1 ∷ regs regop.Div 5 2 3 ∷ []) 9
+    (record (limited 6 5 ((2, 0x80000000) ∷ (3, 0xFFFFFFFF) ∷ (4, 0xFFFFFFFD) ∷ []) 0) { end = Vector 8 0x1014; emulated = emulation 3 0x1008 8 ∷ [] })) {
+      schedule = i ∷ i ∷ i ∷ i ∷ i ∷ i ∷ [];
+    }
 
 -- halves and a double that aren't aligned, and an exchange, which ends the program
 sized : Worked
-sized = record {
-  code = mem memop.LdH 2 0x2007 ∷ mem memop.LdHu 3 0x2007 ∷ mem memop.LdD 4 0x2001 ∷ mem memop.Xmem 6 0x2001 ∷ [];
-  bytes =
-      0x11 ∷ 0x22 ∷ 0x33 ∷ 0x44 ∷ 0x55 ∷ 0x66 ∷ 0x77 ∷ 0x88 ∷ 0x99 ∷ 0xAA ∷ 0xBB ∷ 0xCC ∷ [];
-  pages = no_page;
-  limit = 9;
-  schedule = i ∷ i ∷ i ∷ i ∷ [];
-  comes = record {
-    end = Vector 4 0x100C;
-    retired = 3;
-    registers = (2, 0xFFFF8899) ∷ (3, 0x8899) ∷ (4, 0x22334455) ∷ (5, 0x66778899) ∷ [];
-    words = [];
-    bus = [];
-    events = 4;
-    answers = 0;
-    records = [];
-    emulated = emulation 1 0x1000 4 ∷ emulation 2 0x1004 4 ∷ emulation 3 0x1008 4 ∷ [];
-  };
-}
+sized =
+    record (plain_run (mem memop.LdH 2 0x2007 ∷ mem memop.LdHu 3 0x2007 ∷ mem memop.LdD 4 0x2001 ∷ mem memop.Xmem 6 0x2001 ∷ []) 9
+    (record (limited 4 3 ((2, 0xFFFF8899) ∷ (3, 0x8899) ∷ (4, 0x22334455) ∷ (5, 0x66778899) ∷ []) 0) { end = Vector 4 0x100C; emulated = emulation 1 0x1000 4 ∷ emulation 2 0x1004 4 ∷ emulation 3 0x1008 4 ∷ [] })) {
+      bytes = 0x11 ∷ 0x22 ∷ 0x33 ∷ 0x44 ∷ 0x55 ∷ 0x66 ∷ 0x77 ∷ 0x88 ∷ 0x99 ∷ 0xAA ∷ 0xBB ∷ 0xCC ∷ [];
+      schedule = i ∷ i ∷ i ∷ i ∷ [];
+    }
 
 -- software does an instruction in a delay slot, and the carry stays
 delayed : Worked
-delayed = record {
-  code =
-      regs regop.SubuCo 5 0 0 ∷ Some (instr.Branch false true (pos 3)) ∷ mem memop.Ld 2 0x2001 ∷ im immop.Or 3 0 9
-      ∷ regs regop.AdduCi 4 0 0 ∷ [];
-  bytes = 0x11 ∷ 0x22 ∷ 0x33 ∷ 0x44 ∷ 0x55 ∷ 0x66 ∷ 0x77 ∷ 0x88 ∷ [];
-  pages = no_page;
-  limit = 4;
-  schedule = i ∷ i ∷ i ∷ i ∷ [];
-  comes = record {
-    end = Limit;
-    retired = 4;
-    registers = (2, 0x22334455) ∷ (4, 1) ∷ [];
-    words = [];
-    bus = [];
-    events = 4;
-    answers = 0;
-    records = [];
-    emulated = emulation 3 0x1008 4 ∷ [];
-  };
-}
+delayed =
+    record (plain_run (regs regop.SubuCo 5 0 0 ∷ Some (instr.Branch false true (pos 3)) ∷ mem memop.Ld 2 0x2001 ∷ im immop.Or 3 0 9 ∷ regs regop.AdduCi 4 0 0 ∷ []) 4
+    (record (limited 4 4 ((2, 0x22334455) ∷ (4, 1) ∷ []) 0) { emulated = emulation 3 0x1008 4 ∷ [] })) {
+      bytes = 0x11 ∷ 0x22 ∷ 0x33 ∷ 0x44 ∷ 0x55 ∷ 0x66 ∷ 0x77 ∷ 0x88 ∷ [];
+      schedule = i ∷ i ∷ i ∷ i ∷ [];
+    }
 
 worked : List Worked
 worked = divided ∷ loaded ∷ supplied ∷ waited ∷ around ∷ between ∷ rounded ∷ sized ∷ delayed ∷ []

@@ -1,11 +1,11 @@
 -- The history of the machine with software behind it: that of the sequential machine, where an instruction that raises
 -- has its changes in place of ending the program if software has an aid for it.
-use Rattle.std.specs.Prelude.{ℕ, zero, suc, Bool, false, List, [], ◌∷◌, ◌++◌, Option, Some, None}
+use Rattle.std.specs.Prelude.{ℕ, zero, suc, false, List, [], ◌∷◌, ◌++◌, Option, Some, None}
 use Rattle.m88_isa.specs.Address.{after_bytes, word_address}
 use Rattle.m88_isa.specs.Held.{instruction_at}
 use Rattle.m88_isa.specs.History.{turn_accesses}
 use Rattle.m88_isa.specs.Lanes.{datum_of, enable_of, stored_at}
-use Rattle.m88_isa.specs.Machine.{Program, State, Turn, by_vector, changes, exits, opening, outputs, state_after, stepped, stops, turn}
+use Rattle.m88_isa.specs.Machine.{Program, State, Turn, by_vector, opening, state_after, stepped, stops, turn_at}
 use Rattle.m88_isa.specs.Memory.{Touch}
 use Rattle.m88_isa.specs.declared.instr.Instr.{Instr}
 use Rattle.m88_isa.specs.declared.planned.Access.{Access}
@@ -35,21 +35,12 @@ where_aided vector at (Some aid) = aided vector aid
 
 -- what becomes of an instruction by the turn that it has
 abbrev pub deed_of : Turn → Option Instr → List ℕ → (ℕ → ℕ) → Deed
-deed_of (changes change) i regs memory = alone (changes change)
-deed_of (outputs byte) i regs memory = alone (outputs byte)
-deed_of (stops (exits at)) i regs memory = alone (stops (exits at))
-deed_of (stops (by_vector vector at)) i regs memory =
-    where_aided vector at (aid_at i vector regs memory)
+deed_of (stops (by_vector vector at)) i regs memory = where_aided vector at (aid_at i vector regs memory)
+deed_of turn i regs memory = alone turn
 
--- what becomes of the instruction of a program at an address, of the registers, the carry, MXM, the address that
--- follows and memory by bytes
-abbrev pub deed : Program → List ℕ → Bool → Bool → ℕ → ℕ → (ℕ → ℕ) → Deed
-deed p regs carry mxm pc next memory =
-    deed_of (turn p regs carry mxm pc next) (instruction_at p pc) regs memory
-
--- the same at a state
+-- what becomes of the next instruction of a program at a state
 abbrev pub deed_at : Program → State → Deed
-deed_at p s = deed p s.regs s.carry s.mxm s.pc s.next s.memory
+deed_at p s = deed_of (turn_at p s) (instruction_at p s.pc) s.regs s.memory
 
 -- memory after single bytes are stored, in order
 unfoldable pub stored_all : List Touch → (ℕ → ℕ) → ℕ → ℕ

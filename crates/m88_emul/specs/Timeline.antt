@@ -8,7 +8,7 @@ use Rattle.m88_event.specs.Choice.{Choice, choice_of, finishes}
 use Rattle.m88_event.specs.Letters.{letter_at}
 use Rattle.m88_event.specs.Run.{IsFirst, outcome_along}
 use Rattle.m88_event.specs.Situation.{record_of}
-use Rattle.m88_event.specs.Timeline.{Moment, after_choice, is_over_along, opening_moment, pending_along, situation_along, with_event}
+use Rattle.m88_event.specs.Timeline.{Moment, Run, after_choice, is_over_along, opening_moment, pending_along, situation_along, with_event}
 use Rattle.m88_event.specs.declared.letter.Letter.{Letter}
 use Rattle.m88_event.specs.declared.record.Record.{Record}
 use Rattle.m88_emul.specs.Extended.{Deed, aided, alone, deed_at, extended_history, extended_state}
@@ -56,24 +56,22 @@ abbrev pub with_event_counted : ExtendedMoment → ExtendedMoment
 with_event_counted x = record x { moment = with_event x.moment }
 
 -- the moment after a letter
-unfoldable pub after_event : Program → (ℕ → Bool) → ℕ → Letter → ExtendedMoment → ExtendedMoment
-after_event p named limit letter x =
-    with_event_counted (after_chosen p (choice_of p letter (situation_along (extended_history p) named limit x.moment))
-    (record_of p (situation_along (extended_history p) named limit x.moment)) x)
+unfoldable pub after_event : Run → Letter → ExtendedMoment → ExtendedMoment
+after_event r letter x = with_event_counted (after_chosen r.program
+    (choice_of r.program letter (situation_along (extended_history r.program) r x.moment))
+    (record_of r.program (situation_along (extended_history r.program) r x.moment)) x)
 
 -- the moment of a run after as many events
-unfoldable pub extended_after : Program → (ℕ → Bool) → ℕ → List Letter → ℕ → ExtendedMoment
-extended_after p named limit schedule zero = opening_extended
-extended_after p named limit schedule (suc k) =
-    after_event p named limit (letter_at schedule k) (extended_after p named limit schedule k)
+unfoldable pub extended_after : Run → ℕ → ExtendedMoment
+extended_after r zero = opening_extended
+extended_after r (suc k) = after_event r (letter_at r.schedule k) (extended_after r k)
 
 -- what a run comes to that is over at a moment
 unfoldable pub extended_outcome : Program → ExtendedMoment → EmulOutcome
 extended_outcome p x = record { outcome = outcome_along (extended_history p) x.moment; emulated = x.emulated }
 
--- what the run of a schedule comes to: it is over after so many events and not before, and this is the outcome there
-pub record IsExtendedOutcome (p : Program) (named : ℕ → Bool) (limit : ℕ) (schedule : List Letter) (o : EmulOutcome)
-    : Type 0 where
+-- what a run comes to: it is over after so many events and not before, and this is the outcome there
+pub record IsExtendedOutcome (r : Run) (o : EmulOutcome) : Type 0 where
   pub events : ℕ
-  pub run : IsFirst (λ k. is_over_along (extended_history p) limit (extended_after p named limit schedule k).moment) events
-  pub value : o ≡ extended_outcome p (extended_after p named limit schedule events)
+  pub run : IsFirst (λ k. is_over_along (extended_history r.program) r (extended_after r k).moment) events
+  pub value : o ≡ extended_outcome r.program (extended_after r events)

@@ -1,6 +1,7 @@
 //! A whole run on boards, each begun where the one before it ended at an instruction that software does.
 
 ghost use Rattle.std.specs.Prelude.{ℕ, Bool, ◌≡◌, ◌<◌, ◌≤◌, ◌+◌, ◌-◌, ◌*◌, ◌^◌, ◌++◌, ◌∷◌, [], false, length, IfOk, OnOk};
+ghost use Rattle.m88_event.specs.Timeline.{Run, run_with};
 ghost use Rattle.m88_isa.specs.ImageProgram.{IsProgramOf};
 ghost use Rattle.m88_isa.specs.Machine.{Program};
 ghost use Rattle.m88_mem.specs.Marks.{NamesPages, absent_in};
@@ -31,14 +32,12 @@ pub fn run(
     requires pages { NamesPages absent.now }
     requires small { limit ≤ most_retired }
     ensures outcome { IfOk result (λ o. (p : Program) → IsProgramOf image.now p → p.mxm ≡ false
-        → IsExtendedOutcome p (absent_in absent.now) limit schedule.now o) }
+        → IsExtendedOutcome (run_with p (absent_in absent.now) limit schedule.now) o) }
     ensures program { (p : Program) × IsProgramOf image.now p × (p.mxm ≡ false) }
-    ensures only { (p : Program) (named : ℕ → Bool) (o other : EmulOutcomeValue)
-        → IsExtendedOutcome p named limit schedule.now o
-        → IsExtendedOutcome p named limit schedule.now other
-        → o ≡ other }
+    ensures only { (r : Run) (o other : EmulOutcomeValue)
+        → IsExtendedOutcome r o → IsExtendedOutcome r other → o ≡ other }
     ensures plain { IfOk result (λ o. (p : Program) → IsProgramOf image.now p → p.mxm ≡ false
-        → IsPlainUnaided p (absent_in absent.now) limit schedule.now o) }
+        → IsPlainUnaided (run_with p (absent_in absent.now) limit schedule.now) o) }
     ensures within { IfOk result (λ o. o.outcome.events ≤ length schedule.now + 8 * limit + 8) }
 {
     let mut board = Board::new(alloc, image, absent, limit, false)?;

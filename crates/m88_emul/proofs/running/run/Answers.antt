@@ -19,6 +19,7 @@ use Rattle.m88_emul.proofs.Walks.{IsThere, one_outcome, opens_empty, there_first
 use Rattle.m88_emul.specs.Inside.Settled.{newly_emulated, settled}
 use Rattle.m88_emul.specs.declared.emulation.Emulation.{Emulation}
 use Rattle.m88_emul.proofs.running.run.Goals as goal
+use Rattle.m88_event.specs.Timeline.{run_with}
 
 pub loop-board-init : goal.loop-board-init
 loop-board-init c =
@@ -26,7 +27,7 @@ loop-board-init c =
     let p = c.new.ensures.program.0 in
     let of = c.new.ensures.program.1 in
     let clear = c.new.ensures.program.2 in
-    let empty = opens_empty p (absent_in c.args.absent.now) (local_of c.in_ok-board.board) (made.at p of clear).seen in
+    let empty = opens_empty _ (local_of c.in_ok-board.board) (made.at p c.args.schedule.now of clear).seen in
     let none : c.in_ok-emulated.emulated.items ≡ [] = search rules in
     let start = weight_at_start c.args.limit c.args.schedule.now (local_of c.in_ok-board.board) empty in
     record {
@@ -35,7 +36,7 @@ loop-board-init c =
       image = made.image;
       counted = made.events;
       room = omega (arith, start);
-      there = λ p of clear. there_first p (absent_in c.args.absent.now) c.args.limit c.args.schedule.now _ _ (made.at p of clear).seen none;
+      there = λ p of clear. there_first _ _ _ (made.at p c.args.schedule.now of clear).seen none;
     }
 
 -- which takes something off the weight
@@ -91,9 +92,9 @@ loop-board-preserved c =
           let moved = event.moved p here
           ∙ ap (λ (x : Letter). move p c.args.limit x (local_of old)) c.letter_at.ensures in
           let alone = event.alone c.in_default.is p here in
-          subst (λ (n : ℕ). IsThere p (absent_in c.args.absent.now) c.args.limit c.args.schedule.now n (local_of new) xs)
+          subst (λ (n : ℕ). IsThere (run_with p (absent_in c.args.absent.now) c.args.limit c.args.schedule.now) n (local_of new) xs)
           (sym (add-one c.loop-board.taken))
-          (there_next p (absent_in c.args.absent.now) c.args.limit c.args.schedule.now c.loop-board.taken (local_of old) _ _ _
+          (there_next _ c.loop-board.taken (local_of old) _ _ _
           (program_of_image c.args.image.now p c.new.ensures.is_image of) (inv.there p of clear) goes
           (sym alone.0 ∙ ap (settled p) moved)
           (sym (append-nil xs) ∙ ap (λ (ys : List Emulation). xs ++ ys) (sym alone.1 ∙ ap (newly_emulated p) moved)));
@@ -126,16 +127,16 @@ loop-board-preserved-in-Some c =
           let here = subst (λ (image : ProgramImage). IsProgramOf image p) (sym inv.image) of in
           let moved = event.moved p here
           ∙ ap (λ (x : Letter). move p c.args.limit x (local_of old)) c.letter_at.ensures in
-          subst (λ (n : ℕ). IsThere p (absent_in c.args.absent.now) c.args.limit c.args.schedule.now n
+          subst (λ (n : ℕ). IsThere (run_with p (absent_in c.args.absent.now) c.args.limit c.args.schedule.now) n
           (local_of c.in_ok-board-2.board) c.settle.new.emulated.items) (sym (add-one c.loop-board.taken))
-          (there_next p (absent_in c.args.absent.now) c.args.limit c.args.schedule.now c.loop-board.taken (local_of old) _ _ _
+          (there_next _ c.loop-board.taken (local_of old) _ _ _
           (program_of_image c.args.image.now p c.new.ensures.is_image of) (inv.there p of clear) goes
           (done.settled_is p (after p here) ∙ ap (settled p) moved)
           (done.emulated p (after p here) ∙ ap (λ (l : Local). xs ++ newly_emulated p l) moved));
     }
 
 pub returns-clause-only : goal.returns-clause-only
-returns-clause-only c = λ p named o other. one_outcome p named c.args.limit c.args.schedule.now o other
+returns-clause-only c = λ r o other. one_outcome r o other
 
 pub returns-clause-outcome : goal.returns-clause-outcome
 returns-clause-outcome c = λ p of clear.
@@ -143,7 +144,7 @@ returns-clause-outcome c = λ p of clear.
     let over : is_over_by c.args.limit (local_of c.loop-board.board) ≡ true =
     ap (λ (n : ℕ). is_over_by n (local_of c.loop-board.board)) (sym inv.limit) ∙ sym c.is_over.ensures.value ∙ c.loop-board-test.false in
     let here = subst (λ (image : ProgramImage). IsProgramOf image p) (sym inv.image) of in
-    there_over p (absent_in c.args.absent.now) c.args.limit c.args.schedule.now c.loop-board.taken (local_of c.loop-board.board)
+    there_over _ c.loop-board.taken (local_of c.loop-board.board)
     c.loop-board.emulated.items _ (inv.there p of clear) over
     (ap₂ (λ (o : Outcome) (xs : List Emulation). record { outcome = o; emulated = xs })
     (came_to p c.loop-board.board _ here (c.in_ok-outcome.ensures.value (over_empty c.args.limit c.loop-board.board over)))
@@ -151,7 +152,7 @@ returns-clause-outcome c = λ p of clear.
 
 pub returns-clause-plain : goal.returns-clause-plain
 returns-clause-plain c = λ p of clear.
-    plain_unaided p (absent_in c.args.absent.now) c.args.limit c.args.schedule.now _ (returns-clause-outcome c p of clear)
+    plain_unaided _ _ (returns-clause-outcome c p of clear)
 
 pub returns-clause-within : goal.returns-clause-within
 returns-clause-within c =

@@ -8,6 +8,7 @@ use Rattle.m88_mem.specs.Marks.{absent_in}
 use Rattle.m88_board.specs.Board.{local_of}
 use Rattle.m88_emul.proofs.Walks.{IsThere}
 use Rattle.m88_emul.proofs.running.run.Given as goal
+use Rattle.m88_event.specs.Timeline.{run_with}
 
 abbrev pub invariant-loop-board : goal.invariant-loop-board
 invariant-loop-board l = record {
@@ -17,7 +18,7 @@ invariant-loop-board l = record {
   counted : l.board.events ≡ l.taken;
   room : l.taken + weight l.schedule l.limit l.taken (local_of l.board) ≤ length l.schedule + 8 * l.limit + 8;
   there : (p : Program) → IsProgramOf l.image p → p.mxm ≡ false
-      → IsThere p (absent_in l.absent) l.limit l.schedule l.taken (local_of l.board) l.emulated.items;
+      → IsThere (run_with p (absent_in l.absent) l.limit l.schedule) l.taken (local_of l.board) l.emulated.items;
 }
 
 abbrev pub decreases-loop-board : goal.decreases-loop-board
