@@ -1,17 +1,16 @@
 -- What each program came to, one after the other.
-use Rattle.std.specs.Prelude.{ℕ, Bool, true, List, [], ◌∷◌, ◌++◌, Option, Some, None, ◌≡◌, ◌≢◌, ◌<◌, ◌≤◌, ◌+◌, is_some, length, slice_get, slice_set, IfOk, Result, Ok, Err}
+use Rattle.std.specs.Prelude.{ℕ, true, List, [], ◌∷◌, ◌++◌, Option, Some, None, ◌≡◌, ◌≢◌, ◌<◌, ◌≤◌, ◌+◌, is_some, length, slice_get, slice_set, IfOk, Result, Ok, Err}
 use Rattle.std.proofs.Common.{add-one, arith, refl, sym, ap, ap₂, subst, ◌∙◌}
 use Rattle.std.proofs.lemmas.List.{length-set}
-use Rattle.m88_isa.specs.Machine.{Program}
 use Rattle.m88_base.specs.declared.failing.NoMemory.{NoMemory}
 use Rattle.m88_event.specs.Run.{outcome_at}
-use Rattle.m88_event.specs.Timeline.{Moment, is_over}
+use Rattle.m88_event.specs.Timeline.{Moment, Run, is_over}
 use Rattle.m88_event.specs.declared.outcome.Outcome.{Outcome}
 use Rattle.m88_board.specs.Contexts.{StandsFor}
 use Rattle.m88_board.specs.declared.context.Context.{Context}
 use Rattle.m88_tasks.proofs.Places.{set_there}
 use Rattle.m88_tasks.specs.Inside.Taking.{IsOutcomeOf}
-use Rattle.m88_tasks.specs.Shared.{Group, outcomes_of, over_at}
+use Rattle.m88_tasks.specs.Shared.{Group, outcomes_of, over_at, own_run}
 use Rattle.m88_tasks.specs.Tasks.{ArePlaces, IsOnlyNone}
 
 -- what stands after so many places: the places behind are as they were, and the outcome of the one that runs is there
@@ -60,9 +59,7 @@ outcome_of_place places own o contexts kept outcomes q None g moments current ha
     let waits = has.waits current (only_of g moments current places are) (omega (arith, same)) in
     same_some o own (sym (came.own_is refl) ∙ waits) ∙ here ∙ ap (λ (n : ℕ). outcome_at (g.programs n) (moments n)) (sym same)
 outcome_of_place places own o contexts kept outcomes q (Some c) g moments current has at inside came are over here =
-    let place = are q (Some c) at in
-    came.saved (g.programs q) g.named (moments q) c refl place.1
-    (subst (λ (n : ℕ). is_over (g.programs q) n (moments q) ≡ true) (sym place.2) (over q inside))
+    came.saved (own_run g q) (moments q) c refl (are q (Some c) at).1 (over q inside)
 
 kept_on : (places : List (Option Context)) (own : Outcome) (kept later : Option Outcome) (q current : ℕ) (place : Option Context) →
     slice_get places q ≡ Some place → IsOnlyNone places current → q + 1 ≤ current → ((c : Context) → place ≡ Some c → later ≡ kept) → kept ≡ Some own → later ≡ Some own
@@ -102,12 +99,10 @@ kept_some places own contexts kept outcomes q current place has only at none =
 
 -- the outcome of a context, by the place that it had
 pub outcome_saved : (r : Result Outcome NoMemory) (place : Option Context) (own : Option Outcome) (mine : Context) → place ≡ Some mine →
-    IfOk r (λ o. (p : Program) (named : ℕ → Bool) (m : Moment) → StandsFor p named m mine → is_over p mine.book.limit m ≡ true → o ≡ outcome_at p m) →
+    IfOk r (λ o. (run : Run) (m : Moment) → StandsFor run m mine → is_over run m ≡ true → o ≡ outcome_at run.program m) →
     IfOk r (IsOutcomeOf place own)
 outcome_saved (Ok o) place own mine is h = record {
-  saved = λ p named m c e stands over.
-      let same : c ≡ mine = same_context c mine (sym e ∙ is) in
-      h p named m (subst (StandsFor p named m) same stands) (subst (λ (x : Context). is_over p x.book.limit m ≡ true) same over);
+  saved = λ run m c e stands over. h run m (subst (StandsFor run m) (same_context c mine (sym e ∙ is)) stands) over;
   own_is = λ none. absurd (some_none (sym is ∙ none));
 }
   where

@@ -1,16 +1,15 @@
 -- The event of a letter, and want of memory, by what the programs come to.
-use Rattle.std.specs.Prelude.{ℕ, Bool, true, false, List, ◌≡◌, ◌<◌, ◌+◌, length, Result, Ok, Err, IfOk}
+use Rattle.std.specs.Prelude.{ℕ, true, false, List, ◌≡◌, ◌<◌, ◌+◌, length, Result, Ok, Err, IfOk}
 use Rattle.std.proofs.Common.{arith, sym, ap, subst, ◌∙◌}
 use Rattle.m88_base.specs.declared.failing.NoMemory.{NoMemory}
-use Rattle.m88_isa.specs.Machine.{Program}
 use Rattle.m88_event.specs.Run.{outcome_at}
-use Rattle.m88_event.specs.Timeline.{Moment, is_over}
+use Rattle.m88_event.specs.Timeline.{Moment, Run, is_over}
 use Rattle.m88_event.specs.declared.outcome.Outcome.{Outcome}
 use Rattle.m88_board.specs.Kept.{most_events}
 use Rattle.m88_board.specs.Moves.{IsAt}
 use Rattle.m88_tasks.proofs.Choosing.{each_over}
 use Rattle.m88_tasks.proofs.Running.{alive_view, taken_at}
-use Rattle.m88_tasks.specs.Shared.{Group, SharedMoment, after_share, all_over, outcomes_of, over_at}
+use Rattle.m88_tasks.specs.Shared.{Group, SharedMoment, after_share, all_over, outcomes_of, over_at, own_run}
 use Rattle.m88_tasks.specs.Tasks.{ArePlaces, ArePrograms, AreTasks, IsTaken, IsTasksAt, ProgramsView, TasksView, is_over_view}
 use Rattle.m88_tasks.specs.declared.letter.ShareLetter.{ShareLetter}
 use Rattle.m88_tasks.specs.declared.shared.Switch.{Switch}
@@ -50,7 +49,7 @@ refused_tasks t v switches still same = λ i. record { programs = still i; event
 
 -- all outcomes, where all are over
 pub all_outcomes : {X : Type 0} (items : X → List Outcome) (r : Result X NoMemory) (v : ProgramsView) (own : Outcome) →
-    ((p : Program) (named : ℕ → Bool) (m : Moment) → IsAt p named m v.board → is_over p v.board.limit m ≡ true → own ≡ outcome_at p m) →
+    ((r : Run) (m : Moment) → IsAt r m v.board → is_over r m ≡ true → own ≡ outcome_at r.program m) →
     IfOk r (λ outcomes. (g : Group) (moments : ℕ → Moment) (current : ℕ) → ArePlaces g moments current v.contexts
     → ((q : ℕ) → q < length v.contexts → over_at g moments q ≡ true) → own ≡ outcome_at (g.programs current) (moments current)
     → items outcomes ≡ outcomes_of g moments (length v.contexts)) →
@@ -58,9 +57,7 @@ pub all_outcomes : {X : Type 0} (items : X → List Outcome) (r : Result X NoMem
     → items outcomes ≡ outcomes_of g moments g.count)
 all_outcomes items (Ok x) v own mine h = λ g moments current are over.
     let count = are.count in
-    let limit = are.limit in
     h g moments current are.places (λ q inside. each_over g moments q over (omega (arith, inside, count)))
-    (mine (g.programs current) g.named (moments current) are.board
-    (subst (λ (n : ℕ). is_over (g.programs current) n (moments current) ≡ true) (sym are.limit) (each_over g moments current over are.here)))
+    (mine (own_run g current) (moments current) are.board (each_over g moments current over are.here))
     ∙ ap (outcomes_of g moments) are.count
 all_outcomes items (Err e) v own mine h = tt

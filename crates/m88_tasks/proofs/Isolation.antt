@@ -5,7 +5,7 @@ use Rattle.std.proofs.lemmas.Bool.{eqb-true}
 use Rattle.m88_isa.proofs.Laws.{by_test}
 use Rattle.m88_event.specs.Timeline.{Moment, after_letter, is_over, opening_moment}
 use Rattle.m88_event.specs.declared.letter.Letter.{Letter}
-use Rattle.m88_tasks.specs.Shared.{Group, SharedMoment, after_share, after_turn_letter, moments_then, opening_shared, over_at, owns_then, turn_letter_at}
+use Rattle.m88_tasks.specs.Shared.{Group, SharedMoment, after_share, after_turn_letter, moments_then, opening_shared, over_at, own_run, owns_then, turn_letter_at}
 use Rattle.m88_tasks.specs.declared.letter.ShareLetter.{ShareLetter}
 use Rattle.m88_tasks.specs.declared.letter.ShareLetter.TheVariants as share
 use Rattle.m88_tasks.specs.declared.turned.Turned.{Turned}
@@ -14,13 +14,13 @@ use Rattle.m88_tasks.specs.declared.turned.Turned.TheVariants as turned
 -- the moments of a program alone, along some letters
 unfoldable pub along : Group → ℕ → List Letter → Moment → Moment
 along g q [] m = m
-along g q (letter ∷ letters) m = along g q letters (after_letter (g.programs q) g.named g.limit letter m)
+along g q (letter ∷ letters) m = along g q letters (after_letter (own_run g q) letter m)
 
 -- it was not over before any of them
 unfoldable pub IsAliveAlong : Group → ℕ → List Letter → Moment → Type 0
 IsAliveAlong g q [] m = Unit {0}
 IsAliveAlong g q (letter ∷ letters) m =
-    (is_over (g.programs q) g.limit m ≡ false) × IsAliveAlong g q letters (after_letter (g.programs q) g.named g.limit letter m)
+    (is_over (own_run g q) m ≡ false) × IsAliveAlong g q letters (after_letter (own_run g q) letter m)
 
 -- each program stands where its own letters lead it alone, and took each before it was over
 pub record IsApart (g : Group) (moments : ℕ → Moment) (owns : ℕ → List Letter) : Type 0 where
@@ -28,17 +28,17 @@ pub record IsApart (g : Group) (moments : ℕ → Moment) (owns : ℕ → List L
   pub alive : (q : ℕ) → IsAliveAlong g q (owns q) opening_moment
 
 pub along_last : (g : Group) (q : ℕ) (letters : List Letter) (letter : Letter) (m : Moment) →
-    along g q (letters ++ (letter ∷ [])) m ≡ after_letter (g.programs q) g.named g.limit letter (along g q letters m)
+    along g q (letters ++ (letter ∷ [])) m ≡ after_letter (own_run g q) letter (along g q letters m)
 unfolding along
 along_last g q [] letter m = refl
-along_last g q (l ∷ letters) letter m = along_last g q letters letter (after_letter (g.programs q) g.named g.limit l m)
+along_last g q (l ∷ letters) letter m = along_last g q letters letter (after_letter (own_run g q) l m)
 
 alive_last : (g : Group) (q : ℕ) (letters : List Letter) (letter : Letter) (m : Moment) → IsAliveAlong g q letters m →
-    is_over (g.programs q) g.limit (along g q letters m) ≡ false → IsAliveAlong g q (letters ++ (letter ∷ [])) m
+    is_over (own_run g q) (along g q letters m) ≡ false → IsAliveAlong g q (letters ++ (letter ∷ [])) m
 unfolding along IsAliveAlong
 alive_last g q [] letter m alive goes = (goes, tt)
 alive_last g q (l ∷ letters) letter m alive goes =
-    (alive.0, alive_last g q letters letter (after_letter (g.programs q) g.named g.limit l m) alive.1 goes)
+    (alive.0, alive_last g q letters letter (after_letter (own_run g q) l m) alive.1 goes)
 
 -- at first
 pub apart_first : (g : Group) → IsApart g (opening_shared g).moments (opening_shared g).owns
@@ -49,12 +49,12 @@ apart_own : (g : Group) (letter : Letter) (moments : ℕ → Moment) (owns : ℕ
     over_at g moments current ≡ false → IsApart g (moments_then g letter moments current) (owns_then letter owns current)
 apart_own g letter moments owns current apart goes = record {
   stands = λ q. by_test (q == current)
-      (λ t. rw t (ap (after_letter (g.programs q) g.named g.limit letter) (apart.stands q) ∙ sym (along_last g q (owns q) letter opening_moment)))
+      (λ t. rw t (ap (after_letter (own_run g q) letter) (apart.stands q) ∙ sym (along_last g q (owns q) letter opening_moment)))
       (λ f. rw f (apart.stands q));
   alive = λ q. by_test (q == current)
       (λ t. rw t (alive_last g q (owns q) letter opening_moment (apart.alive q)
       (let same = eqb-true q current t in
-      ap (is_over (g.programs q) g.limit) (sym (apart.stands q)) ∙ subst (λ n. over_at g moments n ≡ false) (sym same) goes)))
+      ap (is_over (own_run g q)) (sym (apart.stands q)) ∙ subst (λ n. over_at g moments n ≡ false) (sym same) goes)))
       (λ f. rw f (apart.alive q));
 }
 
@@ -62,9 +62,7 @@ apart_own g letter moments owns current apart goes = record {
 apart_turn : (g : Group) (s : SharedMoment) (turned : Turned) → IsApart g s.moments s.owns →
     IsApart g (after_turn_letter turned s).moments (after_turn_letter turned s).owns
 apart_turn g s (turned.Own happened) apart = apart
-apart_turn g s (turned.Switched switch) apart = apart
-apart_turn g s (turned.Held pending) apart = apart
-apart_turn g s turned.Alone apart = apart
+apart_turn g s _ apart = apart
 
 -- after each letter
 pub apart_on : (g : Group) (letter : ShareLetter) (s : SharedMoment) → IsApart g s.moments s.owns → over_at g s.moments s.current ≡ false →

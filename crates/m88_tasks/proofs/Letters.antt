@@ -19,9 +19,7 @@ byte_there byte false is_t h =
 
 back : (letter : ShareLetter) → share_letter_of (share_byte letter) ≡ letter
 back (Own Issue) = refl
-back (Own Answer) = refl
-back (Own Evict) = refl
-back Turn = refl
+back _ = refl
 
 has : (letter : ShareLetter) → is_letter beside_own (share_byte letter) ≡ true
 has (Own letter) = own_has beside_own letter

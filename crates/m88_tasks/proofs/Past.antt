@@ -7,7 +7,7 @@ use Rattle.m88_event.specs.Timeline.{Moment, is_drained, opening_moment}
 use Rattle.m88_event.specs.declared.letter.Letter.{Letter}
 use Rattle.m88_tasks.proofs.Choosing.{next_within, no_true, over_where_next, settled_lives, settled_within}
 use Rattle.m88_tasks.specs.Past.{HasSharedPast}
-use Rattle.m88_tasks.specs.Shared.{Group, SharedMoment, after_share, after_turn_letter, all_over, first_alive, is_alone, moments_then, opening_shared, over_at, pending_in, switch_at, turn_letter_at}
+use Rattle.m88_tasks.specs.Shared.{Group, SharedMoment, after_share, after_turn_letter, all_over, first_alive, is_alone, moments_then, opening_shared, over_at, own_run, pending_in, switch_at, turn_letter_at}
 use Rattle.m88_tasks.specs.declared.letter.ShareLetter.{ShareLetter}
 use Rattle.m88_tasks.specs.declared.letter.ShareLetter.TheVariants as share
 use Rattle.m88_tasks.specs.declared.turned.Turned.{Turned}
@@ -38,7 +38,7 @@ own_counted : (g : Group) (letter : Letter) (s : SharedMoment) → ((q : ℕ) �
     (moments_then g letter s.moments s.current q).events ≤ s.events + 1
 own_counted g letter s counted q =
     let before = counted q in
-    let one = letter_events (g.programs q) g.named g.limit letter (s.moments q) in
+    let one = letter_events (own_run g q) letter (s.moments q) in
     by_test (q == s.current)
     (λ t. rw t (omega (arith, before, one)))
     (λ f. rw f (omega (arith, before)))
@@ -56,9 +56,7 @@ turn_past g s false false here past = record {
 
 turn_events : (turned : Turned) (s : SharedMoment) → (after_turn_letter turned s).events ≡ s.events
 turn_events (turned.Own happened) s = refl
-turn_events (turned.Switched switch) s = refl
-turn_events (turned.Held pending) s = refl
-turn_events turned.Alone s = refl
+turn_events _ s = refl
 
 turned_past : (g : Group) (s : SharedMoment) → s.current < g.count → HasSharedPast g s →
     HasSharedPast g (record (after_turn_letter (turn_letter_at g s) s) { events = s.events + 1 })

@@ -7,15 +7,14 @@ use Rattle.std.proofs.lemmas.List.{length-set}
 use Rattle.std.proofs.lemmas.Option.{slice_get_read}
 use Rattle.m88_isa.proofs.Laws.{by_test}
 use Rattle.m88_isa.specs.History.{transaction_count}
-use Rattle.m88_isa.specs.Machine.{Program}
-use Rattle.m88_event.specs.Timeline.{Moment, after_letter, is_over}
+use Rattle.m88_event.specs.Timeline.{Moment, Run, after_letter, is_over}
 use Rattle.m88_event.specs.declared.letter.Letter.{Letter}
 use Rattle.m88_mem.specs.Marks.{absent_in}
 use Rattle.m88_board.specs.Board.{BoardView}
 use Rattle.m88_board.specs.Contexts.{IsRunOf, StandsFor, StandsForSome}
 use Rattle.m88_board.specs.Moves.{IsAt, IsSameRun}
 use Rattle.m88_board.specs.declared.context.Context.{Context}
-use Rattle.m88_tasks.specs.Shared.{Group, moments_then, over_at}
+use Rattle.m88_tasks.specs.Shared.{Group, moments_then, over_at, own_run}
 use Rattle.m88_tasks.specs.Tasks.{ArePrograms, AreSomePrograms, IsPlaceAt, ProgramsView}
 
 same_is : (n : ℕ) → (n == n) ≡ true
@@ -29,24 +28,22 @@ some_if true x = refl
 some_if false x = refl
 
 -- the program of a context is over where it has ended or its limit is reached
-pub context_over : (p : Program) (named : ℕ → Bool) (m : Moment) (c : Context) → StandsFor p named m c →
-    (is_some c.book.end || c.book.retired == c.book.limit) ≡ is_over p c.book.limit m
-context_over p named m c stands =
-    let drained : (m.done == transaction_count p m.retired) ≡ true = rw stands.drained (same_is (transaction_count p m.retired)) in
-    rw (drained, stands.book.ended, stands.book.retired) (ap (λ (b : Bool). b || m.retired == c.book.limit) (some_if m.ended _))
+pub context_over : (r : Run) (m : Moment) (c : Context) → StandsFor r m c →
+    (is_some c.book.end || c.book.retired == c.book.limit) ≡ is_over r m
+context_over r m c stands =
+    let drained : (m.done == transaction_count r.program m.retired) ≡ true = rw stands.drained (same_is (transaction_count r.program m.retired)) in
+    rw (drained, stands.book.ended, stands.book.retired, stands.limit) (ap (λ (b : Bool). b || m.retired == r.limit) (some_if m.ended _))
 
 -- that of a place
 pub place_over : (g : Group) (moments : ℕ → Moment) (current q : ℕ) (c : Context) (result : Bool) → IsPlaceAt g moments current q (Some c) →
-    result ≡ is_over (g.programs q) c.book.limit (moments q) → result ≡ over_at g moments q
-place_over g moments current q c result place says = says ∙ ap (λ (n : ℕ). is_over (g.programs q) n (moments q)) place.2
+    ((r : Run) (m : Moment) → StandsFor r m c → result ≡ is_over r m) → result ≡ over_at g moments q
+place_over g moments current q c result place says = says (own_run g q) (moments q) place.1
 
 pub board_over : (g : Group) (moments : ℕ → Moment) (current : ℕ) (v : ProgramsView) (q : ℕ) (result : Bool) → ArePrograms g moments current v →
-    q ≡ current → ((p : Program) (named : ℕ → Bool) (m : Moment) → IsAt p named m v.board → result ≡ is_over p v.board.limit m) →
+    q ≡ current → ((r : Run) (m : Moment) → IsAt r m v.board → result ≡ is_over r m) →
     result ≡ over_at g moments q
 board_over g moments current v q result are here says =
-    says (g.programs current) g.named (moments current) are.board
-    ∙ ap (λ (n : ℕ). is_over (g.programs current) n (moments current)) are.limit
-    ∙ ap (over_at g moments) (sym here)
+    says (own_run g current) (moments current) are.board ∙ ap (over_at g moments) (sym here)
 
 -- what a place holds that was read
 pub at_place : {X : Type 0} (xs : List X) (i : ℕ) (x y : X) → i < length xs → x ≡ slice_index_or xs i x → x ≡ y → slice_get xs i ≡ Some y
@@ -69,7 +66,7 @@ set_there (z ∷ xs) (suc i) (suc j) x h = set_there xs i j x (λ e. h (ap suc e
 stays_put : (g : Group) (moments : ℕ → Moment) (current to q : ℕ) (place : Option Context) → q ≢ current → q ≢ to →
     IsPlaceAt g moments current q place → IsPlaceAt g moments to q place
 stays_put g moments current to q None apart other place = absurd (apart place)
-stays_put g moments current to q (Some c) apart other place = (other, place.1, place.2)
+stays_put g moments current to q (Some c) apart other place = (other, place.1)
 
 now_none : (g : Group) (moments : ℕ → Moment) (to : ℕ) (place : Option Context) → place ≡ None → IsPlaceAt g moments to to place
 now_none g moments to place e = subst (IsPlaceAt g moments to to) (sym e) refl
@@ -77,8 +74,8 @@ now_none g moments to place e = subst (IsPlaceAt g moments to to) (sym e) refl
 -- the program that runs and that of another place change places
 pub exchanged : (g : Group) (moments : ℕ → Moment) (current to : ℕ) (old : ProgramsView) (b : BoardView) (other kept : Context) →
     ArePrograms g moments current old → to ≢ old.current → slice_get old.contexts to ≡ Some (Some other) → to < length old.contexts →
-    ((p : Program) (named : ℕ → Bool) (m : Moment) → StandsFor p named m other → IsAt p named m b) →
-    ((p : Program) (m : Moment) → IsAt p (absent_in old.board.named) m old.board → StandsFor p (absent_in old.board.named) m kept) →
+    ((r : Run) (m : Moment) → StandsFor r m other → IsAt r m b) →
+    ((r : Run) (m : Moment) → r.absent ≡ absent_in old.board.named → IsAt r m old.board → StandsFor r m kept) →
     IsRunOf other b → IsRunOf kept old.board → b.begun ≡ false →
     ArePrograms g moments to (record { board = b; contexts = slice_set (slice_set old.contexts to None) old.current (Some kept); current = to })
 exchanged g moments current to old b other kept are apart at inside resumed suspended run other_run begun =
@@ -94,8 +91,7 @@ exchanged g moments current to old b other kept are apart at inside resumed susp
       programs = are.programs;
       number = refl;
       here = omega (arith, inside, size);
-      board = resumed (g.programs to) g.named (moments to) stands;
-      limit = run.limit ∙ place.2;
+      board = resumed (own_run g to) (moments to) stands;
       named = stands.names ∙ ap absent_in (sym run.named);
       begun = begun;
       places = λ q held h. by_test (q == current)
@@ -104,14 +100,10 @@ exchanged g moments current to old b other kept are apart at inside resumed susp
           let here : slice_get (slice_set cleared old.current (Some kept)) old.current ≡ Some held =
           ap (slice_get (slice_set cleared old.current (Some kept))) (are.number ∙ sym same) ∙ h in
           let is = set_here cleared old.current (Some kept) held here in
-          let was : StandsFor (g.programs current) g.named (moments current) kept =
-          subst (λ (named : ℕ → Bool). StandsFor (g.programs current) named (moments current) kept) (sym are.named)
-          (suspended (g.programs current) (moments current)
-          (subst (λ (named : ℕ → Bool). IsAt (g.programs current) named (moments current) old.board) are.named are.board)) in
           subst (IsPlaceAt g moments to q) (sym is) (
             (λ e. away (sym e ∙ same)),
-            subst (λ (n : ℕ). StandsFor (g.programs n) g.named (moments n) kept) (sym same) was,
-            sym other_run.limit ∙ are.limit,
+            subst (λ (n : ℕ). StandsFor (own_run g n) (moments n) kept) (sym same)
+                (suspended (own_run g current) (moments current) are.named are.board),
           ))
           (λ f.
           let gone = eqb-false q current f in
@@ -136,17 +128,17 @@ place_some g moments current v to are apart h = apart (are.places to None h ∙ 
 pub place_stands : (v : ProgramsView) (to : ℕ) (c : Context) → AreSomePrograms v → slice_get v.contexts to ≡ Some (Some c) → StandsForSome c
 place_stands v to c some h =
     let place = some.are.places to (Some c) h in
-    (some.group.programs to, some.group.named, some.moments to, place.1)
+    (own_run some.group to, some.moments to, place.1)
 
 -- the program that runs took a letter
 place_moved : (g : Group) (letter : Letter) (moments : ℕ → Moment) (current q : ℕ) (place : Option Context) →
     IsPlaceAt g moments current q place → IsPlaceAt g (moments_then g letter moments current) current q place
 place_moved g letter moments current q None place = place
 place_moved g letter moments current q (Some c) place =
-    (place.0, rw (apart_is q current place.0) place.1, place.2)
+    (place.0, rw (apart_is q current place.0) place.1)
 
 pub moved : (g : Group) (letter : Letter) (moments : ℕ → Moment) (current : ℕ) (old : ProgramsView) (b : BoardView) → ArePrograms g moments current old →
-    ((p : Program) (named : ℕ → Bool) (m : Moment) → IsAt p named m old.board → IsAt p named (after_letter p named old.board.limit letter m) b) →
+    ((r : Run) (m : Moment) → IsAt r m old.board → IsAt r (after_letter r letter m) b) →
     IsSameRun old.board b → ArePrograms g (moments_then g letter moments current) current (record old { board = b })
 moved g letter moments current old b are timeline same = record {
   count = are.count;
@@ -155,10 +147,7 @@ moved g letter moments current old b are timeline same = record {
   programs = are.programs;
   number = are.number;
   here = are.here;
-  board = rw (same_is current)
-      (subst (λ (n : ℕ). IsAt (g.programs current) g.named (after_letter (g.programs current) g.named n letter (moments current)) b) are.limit
-      (timeline (g.programs current) g.named (moments current) are.board));
-  limit = same.limit ∙ are.limit;
+  board = rw (same_is current) (timeline (own_run g current) (moments current) are.board);
   named = are.named ∙ ap absent_in (sym same.named);
   begun = same.begun ∙ are.begun;
   places = λ q place h. place_moved g letter moments current q place (are.places q place h);
@@ -167,8 +156,8 @@ moved g letter moments current old b are timeline same = record {
 -- the same where a place was taken
 pub exchanged_by : (g : Group) (moments : ℕ → Moment) (current to : ℕ) (old : ProgramsView) (b : BoardView) (other kept : Context) (taken : Option Context) →
     taken ≡ None → ArePrograms g moments current old → to ≢ old.current → slice_get old.contexts to ≡ Some (Some other) → to < length old.contexts →
-    ((p : Program) (named : ℕ → Bool) (m : Moment) → StandsFor p named m other → IsAt p named m b) →
-    ((p : Program) (m : Moment) → IsAt p (absent_in old.board.named) m old.board → StandsFor p (absent_in old.board.named) m kept) →
+    ((r : Run) (m : Moment) → StandsFor r m other → IsAt r m b) →
+    ((r : Run) (m : Moment) → r.absent ≡ absent_in old.board.named → IsAt r m old.board → StandsFor r m kept) →
     IsRunOf other b → IsRunOf kept old.board → b.begun ≡ false →
     ArePrograms g moments to (record { board = b; contexts = slice_set (slice_set old.contexts to taken) old.current (Some kept); current = to })
 exchanged_by g moments current to old b other kept taken none are apart at inside resumed suspended run other_run begun =

@@ -1,6 +1,6 @@
 -- A shared run, event after event, until every program is over.
 use Rattle.std.specs.Prelude.{ℕ, zero, suc, true, false, List, [], ◌∷◌, ◌++◌, Option, Some, None, ◌≡◌, ◌<◌, ◌≤◌, ◌+◌, ◌*◌, length, nat_lt, slice_get}
-use Rattle.std.proofs.Common.{add-one, arith, length-append, refl, sym, ap, subst, ◌∙◌}
+use Rattle.std.proofs.Common.{add-one, ap, ap₂, arith, length-append, refl, subst, sym, ◌∙◌}
 use Rattle.std.proofs.lemmas.Bool.{ltb-false, ltb-true}
 use Rattle.std.proofs.lemmas.Nat.{mul-le}
 use Rattle.std.proofs.lemmas.Option.{slice_get_within}
@@ -15,15 +15,15 @@ use Rattle.m88_event.specs.Letters.{most_letters}
 use Rattle.m88_event.specs.Local.{Local, is_over_by, local_at}
 use Rattle.m88_event.specs.Past.{HasPast}
 use Rattle.m88_event.specs.Run.{IsOutcome, NotBefore, outcome_at}
-use Rattle.m88_event.specs.Timeline.{Moment, is_over}
+use Rattle.m88_event.specs.Timeline.{Moment}
 use Rattle.m88_event.specs.declared.outcome.Outcome.{Outcome}
 use Rattle.m88_tasks.proofs.Choosing.{each_over, no_true}
 use Rattle.m88_tasks.proofs.Isolation.{IsApart, apart_first, apart_on}
 use Rattle.m88_tasks.proofs.Past.{alive_by, events_then, past_then}
-use Rattle.m88_tasks.proofs.RunAlone.{own_outcome}
+use Rattle.m88_tasks.proofs.RunAlone.{lettered, own_outcome}
 use Rattle.m88_tasks.proofs.Sharing.{CanGo, left, left_at_first, less_left}
 use Rattle.m88_tasks.specs.Letters.{share_letter_at}
-use Rattle.m88_tasks.specs.Shared.{AreOwnOutcomes, Group, IsShared, SharedMoment, after_share, all_over, opening_shared, outcomes_of, over_at, shared_after, shared_at}
+use Rattle.m88_tasks.specs.Shared.{AreOwnOutcomes, Group, IsShared, SharedMoment, after_share, all_over, opening_shared, outcomes_of, over_at, own_run, shared_after, shared_at}
 use Rattle.m88_tasks.specs.Tasks.{ArePrograms, AreTasks, IsPlaceAt, IsTaken, IsTasksAt, ProgramsView, TasksView, is_over_view, most_shared_events}
 use Rattle.m88_tasks.specs.declared.letter.ShareLetter.{ShareLetter}
 use Rattle.m88_tasks.specs.declared.shared.Shared.{Shared}
@@ -34,9 +34,7 @@ use Rattle.m88_tasks.specs.declared.turned.Turned.{Turned}
 pub seen_over : (g : Group) (moments : ℕ → Moment) (current : ℕ) (v : ProgramsView) → ArePrograms g moments current v →
     is_over_by v.board.limit (local_of v.board) ≡ over_at g moments current
 seen_over g moments current v are =
-    ap (is_over_by v.board.limit) are.board.seen
-    ∙ same_over (g.programs current) g.named v.board.limit (moments current) are.board.within
-    ∙ ap (λ (n : ℕ). is_over (g.programs current) n (moments current)) are.limit
+    ap₂ is_over_by are.board.limit are.board.seen ∙ same_over (own_run g current) (moments current) are.board.within
 
 pub alive_view : (g : Group) (s : SharedMoment) (t : TasksView) → IsTasksAt g s t → is_over_view t ≡ false → over_at g s.moments s.current ≡ false
 alive_view g s t at going = sym (seen_over g s.moments s.current t.programs at.programs) ∙ going
@@ -170,8 +168,8 @@ went_own g schedule k t o went over value =
       count = ap (λ (x : Shared). length x.outcomes) value ∙ outcomes_length g s.moments g.count;
       own = λ q outcome h.
           let here = outcome_in g s.moments g.count q outcome (ap (λ (x : Shared). slice_get x.outcomes q) (sym value) ∙ h) in
-          subst (λ (n : ℕ). IsOutcome (g.programs q) g.named g.limit ((shared_after g schedule n).owns q) outcome) events
-          (subst (IsOutcome (g.programs q) g.named g.limit (s.owns q)) (sym here.1)
+          subst (λ (n : ℕ). IsOutcome (lettered g q ((shared_after g schedule n).owns q)) outcome) events
+          (subst (IsOutcome (lettered g q (s.owns q))) (sym here.1)
           (own_outcome g s.moments s.owns q went.apart (each_over g s.moments q all here.0)));
     }
 
@@ -185,7 +183,7 @@ pub record HasRoom (letters : ℕ) (schedule : List ShareLetter) (k : ℕ) (prog
   pub room : k + left group schedule k moment.moments moment.current ≤ most_shared_events letters group.count group.limit
 
 known : (g : Group) (moments : ℕ → Moment) (current : ℕ) (v : ProgramsView) → ArePrograms g moments current v → (q : ℕ) → q < g.count →
-    IsProgram (g.programs q) × HasPast (g.programs q) g.limit (moments q)
+    IsProgram (g.programs q) × HasPast (own_run g q) (moments q)
 known g moments current v are q inside =
     let place = there v.contexts q (let size = are.count in omega (arith, inside, size)) in
     (are.programs q inside, by_place place.0 (are.places q place.0 place.1))
@@ -195,11 +193,10 @@ known g moments current v are q inside =
     there (x ∷ xs) zero h = (x, refl)
     there (x ∷ xs) (suc i) h = there xs i (omega (arith, h))
 
-    by_place : (place : Option Context) → IsPlaceAt g moments current q place → HasPast (g.programs q) g.limit (moments q)
+    by_place : (place : Option Context) → IsPlaceAt g moments current q place → HasPast (own_run g q) (moments q)
     by_place None here =
-        subst (λ (n : ℕ). HasPast (g.programs n) g.limit (moments n)) (sym here)
-        (subst (λ (n : ℕ). HasPast (g.programs current) n (moments current)) are.limit are.board.past)
-    by_place (Some c) here = subst (λ (n : ℕ). HasPast (g.programs q) n (moments q)) here.2 here.1.past
+        subst (λ (n : ℕ). HasPast (own_run g n) (moments n)) (sym here) are.board.past
+    by_place (Some c) here = here.1.past
 
 pub room_first : (letters : ℕ) (schedule : List ShareLetter) (t : TasksView) → AreTasks t → letters ≡ length schedule →
     HasRoom letters schedule 0 (length t.programs.contexts) t.programs.board.limit t
@@ -208,7 +205,7 @@ room_first letters schedule t are same = record {
   moment = are.moment;
   at = are.at;
   many = sym are.at.programs.count;
-  most = sym are.at.programs.limit;
+  most = sym are.at.programs.board.limit;
   room =
       let most = left_at_first are.group schedule are.moment.moments are.moment.current
       (known are.group are.moment.moments are.moment.current t.programs are.at.programs) in
@@ -219,7 +216,7 @@ can_go : (g : Group) (s : SharedMoment) (t : TasksView) → IsTasksAt g s t → 
 can_go g s t at going = record {
   program = at.programs.programs s.current at.programs.here;
   within = at.programs.board.within;
-  few = let within = at.programs.board.past.within in let limit = at.programs.limit in omega (arith, within, limit);
+  few = at.programs.board.past.within;
   here = at.programs.here;
   alive = alive_view g s t at going;
 }

@@ -2,14 +2,13 @@
 use Rattle.std.specs.Prelude.{ℕ, Bool, true, false, not, List, [], ◌∷◌, Option, Some, None, ◌≡◌, ◌<◌, ◌+◌, ◌-◌, ◌&&◌, length}
 use Rattle.std.proofs.Common.{arith, refl, sym, ap, ap₂, subst, ◌∙◌}
 use Rattle.m88_isa.specs.Held.{is_pending}
-use Rattle.m88_isa.specs.Machine.{Program}
 use Rattle.m88_isa.specs.declared.planned.Access.{Access}
 use Rattle.m88_event.specs.Local.{is_over_by}
-use Rattle.m88_event.specs.Timeline.{Moment, is_over}
+use Rattle.m88_event.specs.Timeline.{Moment, Run, is_over}
 use Rattle.m88_board.specs.Board.{BoardView, local_of}
 use Rattle.m88_board.specs.Moves.{IsAt}
 use Rattle.m88_tasks.proofs.Choosing.{next_within}
-use Rattle.m88_tasks.specs.Shared.{Group, first_alive, next_from, found_next, over_at, settled_from}
+use Rattle.m88_tasks.specs.Shared.{Group, first_alive, found_next, next_from, over_at, own_run, settled_from}
 use Rattle.m88_tasks.specs.Tasks.{ArePrograms, ProgramsView}
 
 pub next_behind : (g : Group) (moments : ℕ → Moment) (current at many q : ℕ) → at ≡ current → many ≡ g.count →
@@ -33,10 +32,9 @@ next_before g moments current at many before here size e f =
 
 -- the program that runs is over, by the board
 pub board_says : (g : Group) (moments : ℕ → Moment) (current : ℕ) (v : ProgramsView) (result : Bool) → ArePrograms g moments current v →
-    ((p : Program) (named : ℕ → Bool) (m : Moment) → IsAt p named m v.board → result ≡ is_over p v.board.limit m) → result ≡ over_at g moments current
+    ((r : Run) (m : Moment) → IsAt r m v.board → result ≡ is_over r m) → result ≡ over_at g moments current
 board_says g moments current v result are says =
-    says (g.programs current) g.named (moments current) are.board
-    ∙ ap (λ (n : ℕ). is_over (g.programs current) n (moments current)) are.limit
+    says (own_run g current) (moments current) are.board
 
 pub settled_same : (g : Group) (moments : ℕ → Moment) (current : ℕ) (v : ProgramsView) → over_at g moments current ≡ false →
     ArePrograms g moments current v → ArePrograms g moments (settled_from g moments current) v

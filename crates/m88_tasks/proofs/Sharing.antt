@@ -13,12 +13,12 @@ use Rattle.m88_event.specs.Bound.{fuel, turns_left, weight}
 use Rattle.m88_event.specs.Letters.{letter_at}
 use Rattle.m88_event.specs.Local.{Local, is_over_by, local_at}
 use Rattle.m88_event.specs.Past.{HasPast, IsBehindBranch}
-use Rattle.m88_event.specs.Timeline.{DoneWereMade, Moment, after_letter, is_over}
+use Rattle.m88_event.specs.Timeline.{DoneWereMade, Moment, Run, after_letter, is_over}
 use Rattle.m88_event.specs.declared.letter.Letter.{Letter}
 use Rattle.m88_event.specs.declared.letter.Letter.TheVariants.{Issue, Answer}
 use Rattle.m88_tasks.proofs.Letters.{behind}
 use Rattle.m88_tasks.specs.Letters.{share_letter_at}
-use Rattle.m88_tasks.specs.Shared.{Group, SharedMoment, after_share, after_turn_letter, moments_then, over_at, settled_from, turn_letter_at}
+use Rattle.m88_tasks.specs.Shared.{Group, SharedMoment, after_share, after_turn_letter, moments_then, over_at, own_run, settled_from, turn_letter_at}
 use Rattle.m88_tasks.specs.declared.letter.ShareLetter.{ShareLetter}
 use Rattle.m88_tasks.specs.declared.letter.ShareLetter.TheVariants as share
 use Rattle.m88_tasks.specs.declared.turned.Turned.{Turned}
@@ -26,7 +26,7 @@ use Rattle.m88_tasks.specs.declared.turned.Turned.TheVariants as turned
 
 -- what a program looks like
 abbrev pub seen_in : Group → (ℕ → Moment) → ℕ → Local
-seen_in g moments q = local_at (g.programs q) g.named (moments q)
+seen_in g moments q = local_at (own_run g q) (moments q)
 
 -- what is left of a program: nothing where it is over; of the one that runs its weight; of another at most so much
 abbrev cost_by : Bool → Bool → ℕ → ℕ → Local → ℕ
@@ -116,10 +116,10 @@ own_fuel g letter moments current can q = by_test (q == current)
     (λ t.
     let same = eqb-true q current t in
     let stays = fuel_stays (g.programs current) g.limit letter (seen_in g moments current) can.program can.few in
-    let moved = moves_as_seen (g.programs current) g.named g.limit letter (moments current) can.program can.within in
-    let less : fuel g.limit (local_at (g.programs current) g.named (after_letter (g.programs current) g.named g.limit letter (moments current)))
+    let moved = moves_as_seen (own_run g current) letter (moments current) can.program can.within in
+    let less : fuel g.limit (local_at (own_run g current) (after_letter (own_run g current) letter (moments current)))
     ≤ fuel g.limit (seen_in g moments current) = subst (λ (m : Local). fuel g.limit m ≤ fuel g.limit (seen_in g moments current)) moved stays in
-    rw t (subst (λ n. fuel g.limit (local_at (g.programs n) g.named (after_letter (g.programs n) g.named g.limit letter (moments n)))
+    rw t (subst (λ n. fuel g.limit (local_at (own_run g n) (after_letter (own_run g n) letter (moments n)))
     ≤ fuel g.limit (seen_in g moments n)) (sym same) less))
     (λ f. rw f (omega arith))
 
@@ -163,18 +163,18 @@ own_costs : (g : Group) (k : ℕ) (moments : ℕ → Moment) (current : ℕ) →
     total (cost g false (k + 1) (moments_then g (letter_at [] k) moments current) current) g.count < total (cost g false k moments current) g.count
 unfolding local_at
 own_costs g k moments current can =
-    let p : Program = g.programs current in
+    let r : Run = own_run g current in
     let letter : Letter = letter_at [] k in
     let later : ℕ → Moment = moments_then g letter moments current in
     let l : Local = seen_in g moments current in
-    let goes : is_over_by g.limit l ≡ false = same_over p g.named g.limit (moments current) can.within ∙ can.alive in
-    let less = lessens p g.limit [] k l can.program can.few goes in
-    let moved = moves_as_seen p g.named g.limit letter (moments current) can.program can.within in
+    let goes : is_over_by g.limit l ≡ false = same_over r (moments current) can.within ∙ can.alive in
+    let less = lessens r.program g.limit [] k l can.program can.few goes in
+    let moved = moves_as_seen r letter (moments current) can.program can.within in
     let fewer = subst (λ (m : Local). weight [] g.limit (k + 1) m < weight [] g.limit k l) moved less in
     let self = same_is current in
     let here_less : cost g false (k + 1) later current current < cost g false k moments current current =
-    rw (self, can.alive) (own_less (is_over p g.limit (after_letter p g.named g.limit letter (moments current))) g.limit k l
-    (local_at p g.named (after_letter p g.named g.limit letter (moments current))) fewer) in
+    rw (self, can.alive) (own_less (is_over r (after_letter r letter (moments current))) g.limit k l
+    (local_at r (after_letter r letter (moments current))) fewer) in
     one_less (cost g false (k + 1) later current) (cost g false k moments current) g.count current can.here (λ q. by_test (q == current)
     (λ e. let same = eqb-true q current e in
     subst (λ n. cost g false (k + 1) later current n ≤ cost g false k moments current n) (sym same) (omega (arith, here_less)))
@@ -215,10 +215,8 @@ outside_less g schedule k moments current can outside =
 -- who runs after a letter `t`
 turn_less : (g : Group) (schedule : List ShareLetter) (k : ℕ) (s : SharedMoment) (turned : Turned) → k < length schedule →
     left g schedule (k + 1) (after_turn_letter turned s).moments (after_turn_letter turned s).current < left g schedule k s.moments s.current
-turn_less g schedule k s (turned.Own happened) inside = inside_less g schedule k s.moments s.moments s.current s.current inside (λ q. omega arith) (λ q h. h)
 turn_less g schedule k s (turned.Switched switch) inside = inside_less g schedule k s.moments s.moments s.current switch.to inside (λ q. omega arith) (λ q h. h)
-turn_less g schedule k s (turned.Held pending) inside = inside_less g schedule k s.moments s.moments s.current s.current inside (λ q. omega arith) (λ q h. h)
-turn_less g schedule k s turned.Alone inside = inside_less g schedule k s.moments s.moments s.current s.current inside (λ q. omega arith) (λ q h. h)
+turn_less g schedule k s _ inside = inside_less g schedule k s.moments s.moments s.current s.current inside (λ q. omega arith) (λ q h. h)
 
 letter_less : (g : Group) (schedule : List ShareLetter) (k : ℕ) (s : SharedMoment) (letter : ShareLetter) → CanGo g s.moments s.current →
     k < length schedule →
@@ -241,14 +239,14 @@ less_left g schedule k s can = by_test (nat_lt k (length schedule))
 behind_one : (p : Program) (n : ℕ) → IsBehindBranch p n → 1 ≤ n
 behind_one p n h = let last = h.last in omega (arith, last)
 
-most_fuel : (p : Program) (named : ℕ → Bool) (limit : ℕ) (m : Moment) → IsProgram p → HasPast p limit m →
-    fuel limit (local_at p named m) ≤ 4 * limit + 1
+most_fuel : (r : Run) (m : Moment) → IsProgram r.program → HasPast r m →
+    fuel r.limit (local_at r m) ≤ 4 * r.limit + 1
 unfolding fuel local_at
-most_fuel p named limit m is past =
-    let twice = twice_at_most p m.retired is in
-    let short = length-drop m.done (transactions p m.retired) in
-    let bubble = least_of m.bubble m.retired (λ b. behind_one p m.retired (past.bubbled b)) in
-    let ended = one_at_most (not (is_some (local_at p named m).ended)) in
+most_fuel r m is past =
+    let twice = twice_at_most r.program m.retired is in
+    let short = length-drop m.done (transactions r.program m.retired) in
+    let bubble = least_of m.bubble m.retired (λ b. behind_one r.program m.retired (past.bubbled b)) in
+    let ended = one_at_most (not (is_some (local_at r m).ended)) in
     let within = past.within in
     omega (arith, twice, short, bubble, ended, within)
 
@@ -264,13 +262,13 @@ each_at_most f (suc n) most le =
     suc_times n most a b h k = grind arith
 
 pub left_at_first : (g : Group) (schedule : List ShareLetter) (moments : ℕ → Moment) (current : ℕ) →
-    ((q : ℕ) → q < g.count → IsProgram (g.programs q) × HasPast (g.programs q) g.limit (moments q)) →
+    ((q : ℕ) → q < g.count → IsProgram (g.programs q) × HasPast (own_run g q) (moments q)) →
     left g schedule 0 moments current ≤ length schedule + g.count * (8 * g.limit + 8)
 unfolding left
 left_at_first g schedule moments current known =
     let all = each_at_most (cost g (nat_lt 0 (length schedule)) (0 - length schedule) moments current) g.count (8 * g.limit + 8)
     (λ q h.
     let most = at_most (over_at g moments q) (not (nat_lt 0 (length schedule)) && q == current) g.limit (0 - length schedule) (seen_in g moments q) in
-    let fuels = most_fuel (g.programs q) g.named g.limit (moments q) (known q h).0 (known q h).1 in
+    let fuels = most_fuel (own_run g q) (moments q) (known q h).0 (known q h).1 in
     omega (arith, most, fuels)) in
     omega (arith, all)

@@ -1,6 +1,6 @@
 -- Programs that share a board before the first event.
 use Rattle.std.specs.Prelude.{ℕ, zero, suc, Bool, true, false, not, List, [], ◌∷◌, ◌++◌, Option, Some, None, ◌≡◌, ◌≢◌, ◌<◌, ◌≤◌, ◌+◌, ◌-◌, ◌==◌, length, slice_get, unwrap_or}
-use Rattle.std.proofs.Common.{arith, length-append, refl, sym, ap, subst, ◌∙◌}
+use Rattle.std.proofs.Common.{ap, ap₂, arith, length-append, refl, subst, sym, ◌∙◌}
 use Rattle.std.proofs.lemmas.Bool.{eqb-false, eqb-true}
 use Rattle.std.proofs.lemmas.Option.{slice_get_within}
 use Rattle.m88_base.specs.Image.{IsImage, ProgramImage}
@@ -10,7 +10,7 @@ use Rattle.m88_isa.specs.History.{transactions}
 use Rattle.m88_isa.specs.ImageProgram.{IsProgramOf}
 use Rattle.m88_isa.specs.Machine.{Program}
 use Rattle.m88_codec.proofs.Laws.{program_in, program_in_holds, program_in_mxm}
-use Rattle.m88_event.specs.Timeline.{opening_moment}
+use Rattle.m88_event.specs.Timeline.{Run, opening_moment, run_with}
 use Rattle.m88_mem.specs.Marks.{absent_in}
 use Rattle.m88_board.proofs.Laws.{here_first}
 use Rattle.m88_board.specs.Board.{BoardView}
@@ -21,9 +21,10 @@ use Rattle.m88_board.specs.declared.context.Context.{Context}
 use Rattle.m88_tasks.proofs.Choosing.{none_below}
 use Rattle.m88_tasks.proofs.Past.{past_first}
 use Rattle.m88_tasks.proofs.Running.{at_last, in_front}
-use Rattle.m88_tasks.specs.Shared.{Group, first_alive, opening_shared, over_at}
+use Rattle.m88_tasks.specs.Shared.{Group, first_alive, opening_shared, over_at, own_run}
 use Rattle.m88_tasks.specs.Tasks.{ArePrograms, AreSomePrograms, AreTasks, IsGroupOf, IsPlaceAt, IsTasksAt, ProgramsView, most_programs}
 use Rattle.m88_tasks.specs.declared.shared.Switch.{Switch}
+use Rattle.m88_event.specs.declared.letter.Letter.{Letter}
 
 -- at first each program is over where the limit is 0, and none is where it isn't
 over_first : (g : Group) (q : ℕ) → over_at g (λ n. opening_moment) q ≡ (0 == g.limit)
@@ -49,9 +50,8 @@ abbrev IsMade : List ProgramImage → Absent → ℕ → ℕ → Option Context 
 IsMade images absent limit k None = k ≡ 0
 IsMade images absent limit k (Some c) =
     (k ≢ 0)
-    × ((image : ProgramImage) → slice_get images k ≡ Some image → (p : Program) → IsProgramOf image p → p.mxm ≡ false
-    → StandsFor p (absent_in absent) opening_moment c)
-    × (c.book.limit ≡ limit)
+    × ((image : ProgramImage) → slice_get images k ≡ Some image → (p : Program) (schedule : List Letter) → IsProgramOf image p → p.mxm ≡ false
+    → StandsFor (run_with p (absent_in absent) limit schedule) opening_moment c)
 
 -- the first so many places are made
 pub record AreMade (images : List ProgramImage) (absent : Absent) (limit : ℕ) (contexts : List (Option Context)) (made : ℕ) : Type 0 where
@@ -81,9 +81,10 @@ made_first images absent limit image contexts at is e = record {
 
 pub made_next : (images : List ProgramImage) (absent : Absent) (limit q : ℕ) (image : ProgramImage) (contexts more : List (Option Context)) (c : Context) →
     AreMade images absent limit contexts q → 1 ≤ q → slice_get images q ≡ Some image → IsImage image →
-    ((p : Program) → IsProgramOf image p → p.mxm ≡ false → StandsFor p (absent_in absent) opening_moment c) → c.book.limit ≡ limit →
+    ((p : Program) (schedule : List Letter) → IsProgramOf image p → p.mxm ≡ false
+    → StandsFor (run_with p (absent_in absent) limit schedule) opening_moment c) →
     more ≡ contexts ++ (Some c ∷ []) → AreMade images absent limit more (q + 1)
-made_next images absent limit q image contexts more c made some at is stands limited e =
+made_next images absent limit q image contexts more c made some at is stands e =
     let size = made.size in
     let joined = length-append contexts (Some c ∷ []) in
     let long : length more ≡ length (contexts ++ (Some c ∷ [])) = ap length e in
@@ -99,9 +100,8 @@ made_next images absent limit q image contexts more c made some at is stands lim
           subst (IsMade images absent limit k)
           (place_same (Some c) place (sym (at_last contexts (Some c)) ∙ ap (slice_get (contexts ++ (Some c ∷ []))) last ∙ held)) (
             (λ zero. absurd (omega (arith, zero, here, some))),
-            (λ other there p of mode. stands p (subst (λ (i : ProgramImage). IsProgramOf i p)
+            (λ other there p schedule of mode. stands p schedule (subst (λ (i : ProgramImage). IsProgramOf i p)
                 (image_same other image (sym there ∙ ap (slice_get images) here ∙ at)) of) mode),
-            limited,
           ))
           (λ f.
           let apart = eqb-false k q f in
@@ -120,10 +120,11 @@ there (image ∷ images) (suc q) h = there images q (omega (arith, h))
 -- a board and these contexts stand at the opening moments of every group of programs that the images hold
 pub starts : (images : List ProgramImage) (absent : Absent) (limit : ℕ) (b : BoardView) (contexts : List (Option Context)) (g : Group) →
     AreMade images absent limit contexts (length images) → 1 ≤ length images → length images ≤ most_programs → limit ≤ most_retired →
-    ((image : ProgramImage) → slice_get images 0 ≡ Some image → (p : Program) → IsProgramOf image p → p.mxm ≡ false → IsAt p (absent_in absent) opening_moment b) →
-    b.limit ≡ limit → b.named ≡ absent → b.begun ≡ false → IsGroupOf images absent limit g →
+    ((image : ProgramImage) → slice_get images 0 ≡ Some image → (p : Program) (schedule : List Letter) → IsProgramOf image p → p.mxm ≡ false
+    → IsAt (run_with p (absent_in absent) limit schedule) opening_moment b) →
+    b.named ≡ absent → b.begun ≡ false → IsGroupOf images absent limit g →
     ArePrograms g (opening_shared g).moments (opening_shared g).current (record { board = b; contexts = contexts; current = 0 })
-starts images absent limit b contexts g made some few small at limited named begun is =
+starts images absent limit b contexts g made some few small at named begun is =
     let count = is.count in
     let limits = is.limited in
     let first = opening_current g (omega (arith, some, count)) in
@@ -139,10 +140,9 @@ starts images absent limit b contexts g made some few small at limited named beg
       here = omega (arith, some, count);
       board =
           let image = there images 0 (omega (arith, some)) in
-          subst (λ (named : ℕ → Bool). IsAt (g.programs 0) named opening_moment b) (sym is.named)
-          (at image.0 image.1 (g.programs 0) (is.programs 0 image.0 image.1) (is.modes 0 (omega (arith, some, count))));
-      limit = limited ∙ sym is.limited;
-      named = is.named ∙ ap absent_in (sym named);
+          subst (λ (r : Run). IsAt r opening_moment b) (sym (own_is 0))
+          (at image.0 image.1 (g.programs 0) [] (is.programs 0 image.0 image.1) (is.modes 0 (omega (arith, some, count))));
+      named = is.absent_is ∙ ap absent_in (sym named);
       begun = begun;
       places = λ q place h.
           let size = made.size in
@@ -151,15 +151,17 @@ starts images absent limit b contexts g made some few small at limited named beg
     } in
     subst (λ (n : ℕ). ArePrograms g (λ q. opening_moment) n (record { board = b; contexts = contexts; current = 0 })) (sym first) begins
   where
+    own_is : (q : ℕ) → own_run g q ≡ run_with (g.programs q) (absent_in absent) limit []
+    own_is q = ap₂ (λ (pages : ℕ → Bool) (most : ℕ). run_with (g.programs q) pages most []) is.absent_is is.limited
+
     place_made : (q : ℕ) (place : Option Context) → q < g.count → IsMade images absent limit q place → IsPlaceAt g (λ n. opening_moment) 0 q place
     place_made q None inside place = place
     place_made q (Some c) inside place =
         let count = is.count in
         let image = there images q (omega (arith, inside, count)) in (
           place.0,
-          subst (λ (named : ℕ → Bool). StandsFor (g.programs q) named opening_moment c) (sym is.named)
-              (place.1 image.0 image.1 (g.programs q) (is.programs q image.0 image.1) (is.modes q inside)),
-          place.2 ∙ sym is.limited,
+          subst (λ (r : Run). StandsFor r opening_moment c) (sym (own_is q))
+              (place.1 image.0 image.1 (g.programs q) [] (is.programs q image.0 image.1) (is.modes q inside)),
         )
 
 -- and so they do of some
@@ -198,7 +200,7 @@ group_in : (images : List ProgramImage) → AreImages images → Absent → ℕ 
 group_in images is absent limit = record {
   count = length images;
   programs = programs_of images is;
-  named = absent_in absent;
+  absent = absent_in absent;
   limit = limit;
 }
 
@@ -208,7 +210,7 @@ some_group images is absent limit = record {
   count = refl;
   programs = programs_hold images is;
   modes = λ q inside. programs_mode images is q;
-  named = refl;
+  absent_is = refl;
   limited = refl;
 }
 
@@ -220,15 +222,16 @@ a_group images absent limit contexts made =
 
 pub some_start : (images : List ProgramImage) (absent : Absent) (limit : ℕ) (b : BoardView) (contexts : List (Option Context)) →
     AreMade images absent limit contexts (length images) → 1 ≤ length images → length images ≤ most_programs → limit ≤ most_retired →
-    ((image : ProgramImage) → slice_get images 0 ≡ Some image → (p : Program) → IsProgramOf image p → p.mxm ≡ false → IsAt p (absent_in absent) opening_moment b) →
-    b.limit ≡ limit → b.named ≡ absent → b.begun ≡ false → AreSomePrograms (record { board = b; contexts = contexts; current = 0 })
-some_start images absent limit b contexts made some few small at limited named begun =
+    ((image : ProgramImage) → slice_get images 0 ≡ Some image → (p : Program) (schedule : List Letter) → IsProgramOf image p → p.mxm ≡ false
+    → IsAt (run_with p (absent_in absent) limit schedule) opening_moment b) →
+    b.named ≡ absent → b.begun ≡ false → AreSomePrograms (record { board = b; contexts = contexts; current = 0 })
+some_start images absent limit b contexts made some few small at named begun =
     let g = a_group images absent limit contexts made in
     record {
       group = g.0;
       moments = (opening_shared g.0).moments;
       current = (opening_shared g.0).current;
-      are = starts images absent limit b contexts g.0 made some few small at limited named begun g.1;
+      are = starts images absent limit b contexts g.0 made some few small at named begun g.1;
     }
 
 -- the programs with no event and no switch so far

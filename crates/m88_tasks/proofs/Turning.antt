@@ -8,7 +8,7 @@ use Rattle.m88_event.specs.Timeline.{is_drained, record_at}
 use Rattle.m88_event.specs.declared.record.Record.{Record}
 use Rattle.m88_board.proofs.Laws.{drained_by}
 use Rattle.m88_tasks.proofs.Choosing.{alone_stays, others_next}
-use Rattle.m88_tasks.specs.Shared.{Group, SharedMoment, after_turn_letter, is_alone, next_from, pending_in, switch_at, switch_by, turn_letter_at}
+use Rattle.m88_tasks.specs.Shared.{Group, SharedMoment, after_turn_letter, is_alone, next_from, own_run, pending_in, switch_at, switch_by, turn_letter_at}
 use Rattle.m88_tasks.specs.Tasks.{ArePrograms, IsTaken, ProgramsView}
 use Rattle.m88_tasks.specs.declared.letter.ShareLetter.TheVariants as share
 use Rattle.m88_tasks.specs.declared.shared.Switch.{Switch}
@@ -42,7 +42,7 @@ is_held g s h = rw h refl
 pub held : (g : Group) (s : SharedMoment) (n : ℕ) (v : ProgramsView) → ArePrograms g s.moments s.current v → n ≡ length v.board.pending →
     n ≡ pending_in g s → 0 < n → turned.Held n ≡ turn_letter_at g s
 held g s n v are seen many some =
-    let drained = drained_by (g.programs s.current) g.named (s.moments s.current) v.board are.board in
+    let drained = drained_by (own_run g s.current) (s.moments s.current) v.board are.board in
     ap (λ (k : ℕ). turned.Held k) many
     ∙ is_held g s (sym drained ∙ ap not (some_pending v.board.pending (omega (arith, seen, some))))
 
@@ -50,7 +50,7 @@ held g s n v are seen many some =
 drained_then : (g : Group) (s : SharedMoment) (v : ProgramsView) → ArePrograms g s.moments s.current v → v.board.pending ≡ [] →
     is_drained (g.programs s.current) (s.moments s.current) ≡ true
 drained_then g s v are empty =
-    sym (drained_by (g.programs s.current) g.named (s.moments s.current) v.board are.board) ∙ ap (λ (xs : List Access). not (is_pending xs)) empty
+    sym (drained_by (own_run g s.current) (s.moments s.current) v.board are.board) ∙ ap (λ (xs : List Access). not (is_pending xs)) empty
 
 is_alone_there : (g : Group) (s : SharedMoment) → is_drained (g.programs s.current) (s.moments s.current) ≡ true →
     is_alone g s.moments s.current ≡ true → turned.Alone ≡ turn_letter_at g s
@@ -78,10 +78,9 @@ switched g s v are empty other =
 -- the switch by the record of the moment before
 pub same_switch : (g : Group) (s : SharedMoment) (v : ProgramsView) (event from to : ℕ) (saved : Record) → ArePrograms g s.moments s.current v →
     event ≡ s.events + 1 → from ≡ v.current → to ≡ next_from g s.moments s.current →
-    saved ≡ record_at (g.programs s.current) g.named v.board.limit (s.moments s.current) → switch_by event from to saved ≡ switch_at g s
+    saved ≡ record_at (own_run g s.current) (s.moments s.current) → switch_by event from to saved ≡ switch_at g s
 same_switch g s v event from to saved are number here next words =
     ap (λ (n : ℕ). switch_by n from to saved) number
     ∙ ap (λ (n : ℕ). switch_by (s.events + 1) n to saved) (here ∙ are.number)
     ∙ ap (λ (n : ℕ). switch_by (s.events + 1) s.current n saved) next
-    ∙ ap (switch_by (s.events + 1) s.current (next_from g s.moments s.current))
-    (words ∙ ap (λ (n : ℕ). record_at (g.programs s.current) g.named n (s.moments s.current)) are.limit)
+    ∙ ap (switch_by (s.events + 1) s.current (next_from g s.moments s.current)) words

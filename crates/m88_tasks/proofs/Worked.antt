@@ -88,7 +88,7 @@ abbrev group : Worked → Group
 group w = record {
   count = length w.code;
   programs = λ q. program (unwrap_or (slice_get w.code q) []);
-  named = w.pages;
+  absent = w.pages;
   limit = w.limit;
 }
 

@@ -2,7 +2,7 @@
 -- what a letter makes of them.
 use Rattle.std.specs.Prelude.{ℕ, zero, suc, Bool, not, List, [], ◌∷◌, ◌++◌, Option, Some, None, ◌≡◌, ◌+◌, ◌-◌, ◌==◌, ◌||◌, is_none, length, slice_get, unwrap_or, if◌then◌else◌}
 use Rattle.m88_event.specs.Run.{IsFirst, IsOutcome, outcome_at}
-use Rattle.m88_event.specs.Timeline.{Moment, after_letter, is_drained, is_over, opening_moment, record_at, said_at}
+use Rattle.m88_event.specs.Timeline.{Moment, Run, after_letter, is_drained, is_over, opening_moment, record_at, run_with, said_at}
 use Rattle.m88_event.specs.declared.letter.Letter.{Letter}
 use Rattle.m88_event.specs.declared.outcome.Outcome.{Outcome}
 use Rattle.m88_event.specs.declared.record.Record.{Record}
@@ -22,8 +22,12 @@ use Rattle.m88_tasks.specs.declared.turned.Turned.TheVariants as turned
 pub record Group : Type 0 where
   pub count : ℕ
   pub programs : ℕ → Program
-  pub named : ℕ → Bool
+  pub absent : ℕ → Bool
   pub limit : ℕ
+
+-- the run of one of them, whose letters come one by one
+abbrev pub own_run : Group → ℕ → Run
+own_run g q = run_with (g.programs q) g.absent g.limit []
 
 -- the moment of each program, the letters that each took, the program that runs, the events of the whole board, and the
 -- switches so far
@@ -36,7 +40,7 @@ pub record SharedMoment : Type 0 where
 
 -- a program is over
 abbrev pub over_at : Group → (ℕ → Moment) → ℕ → Bool
-over_at g moments q = is_over (g.programs q) g.limit (moments q)
+over_at g moments q = is_over (own_run g q) (moments q)
 
 -- the first that isn't, of so many programs from one on
 abbrev pub first_alive : Group → (ℕ → Moment) → ℕ → ℕ → Option ℕ
@@ -79,8 +83,7 @@ with_shared_event s = record s { events = s.events + 1 }
 -- the moments once the program that runs took a letter: its own moves, and no other
 abbrev pub moments_then : Group → Letter → (ℕ → Moment) → ℕ → ℕ → Moment
 moments_then g letter moments current q =
-    if q == current then after_letter (g.programs q) g.named g.limit letter (moments q)
-    else moments q
+    if q == current then after_letter (own_run g q) letter (moments q) else moments q
 
 -- and the letters that each took
 abbrev pub owns_then : Letter → (ℕ → List Letter) → ℕ → ℕ → List Letter
@@ -116,7 +119,7 @@ switch_by event from to saved = record {
 abbrev pub switch_at : Group → SharedMoment → Switch
 switch_at g s =
     switch_by (s.events + 1) s.current (next_from g s.moments s.current)
-    (record_at (g.programs s.current) g.named g.limit (s.moments s.current))
+    (record_at (own_run g s.current) (s.moments s.current))
 
 -- how many transactions of the program that runs are pending
 abbrev pub pending_in : Group → SharedMoment → ℕ
@@ -147,7 +150,7 @@ after_share g share.Turn s = with_shared_event (after_turn_letter (turn_letter_a
 -- what the event of a letter says
 abbrev pub turned_at : Group → ShareLetter → SharedMoment → Turned
 turned_at g (share.Own letter) s =
-    turned.Own (said_at (g.programs s.current) g.named g.limit letter (s.moments s.current))
+    turned.Own (said_at (own_run g s.current) letter (s.moments s.current))
 turned_at g share.Turn s = turn_letter_at g s
 
 -- the shared moment after as many events of a run
@@ -184,4 +187,4 @@ pub record IsShared (g : Group) (schedule : List ShareLetter) (o : Shared) : Typ
 pub record AreOwnOutcomes (g : Group) (schedule : List ShareLetter) (o : Shared) : Type 0 where
   pub count : length o.outcomes ≡ g.count
   pub own : (q : ℕ) (outcome : Outcome) → slice_get o.outcomes q ≡ Some outcome
-      → IsOutcome (g.programs q) g.named g.limit ((shared_after g schedule o.events).owns q) outcome
+      → IsOutcome (run_with (g.programs q) g.absent g.limit ((shared_after g schedule o.events).owns q)) outcome

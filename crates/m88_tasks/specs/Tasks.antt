@@ -14,7 +14,7 @@ use Rattle.m88_isa.specs.ImageProgram.{IsProgramOf}
 use Rattle.m88_isa.specs.Machine.{IsProgram}
 use Rattle.m88_mem.specs.Marks.{absent_in}
 use Rattle.m88_tasks.specs.Past.{HasSharedPast}
-use Rattle.m88_tasks.specs.Shared.{AreOwnOutcomes, Group, IsShared, SharedMoment, after_share, opening_shared, turned_at}
+use Rattle.m88_tasks.specs.Shared.{AreOwnOutcomes, Group, IsShared, SharedMoment, after_share, opening_shared, own_run, turned_at}
 use Rattle.m88_tasks.specs.declared.letter.ShareLetter.{ShareLetter}
 use Rattle.m88_tasks.specs.declared.shared.Shared.{Shared}
 use Rattle.m88_tasks.specs.declared.shared.Switch.{Switch}
@@ -48,15 +48,14 @@ pub record IsGroupOf (images : List ProgramImage) (absent : Absent) (limit : ℕ
   pub programs : (q : ℕ) (image : ProgramImage) → slice_get images q ≡ Some image
       → IsProgramOf image (g.programs q)
   pub modes : (q : ℕ) → q < g.count → (g.programs q).mxm ≡ false
-  pub named : g.named ≡ absent_in absent
+  pub absent_is : g.absent ≡ absent_in absent
   pub limited : g.limit ≡ limit
 
 -- the place of a program: where another runs its context is there, which stands for its moment
 abbrev pub IsPlaceAt : Group → (ℕ → Moment) → ℕ → ℕ → Option Context → Type 0
 IsPlaceAt g moments current q None = q ≡ current
 IsPlaceAt g moments current q (Some context) =
-    (q ≢ current) × StandsFor (g.programs q) g.named (moments q) context
-    × (context.book.limit ≡ g.limit)
+    (q ≢ current) × StandsFor (own_run g q) (moments q) context
 
 -- so of all places
 abbrev pub ArePlaces : Group → (ℕ → Moment) → ℕ → List (Option Context) → Type 0
@@ -78,9 +77,8 @@ pub record ArePrograms (g : Group) (moments : ℕ → Moment) (current : ℕ) (v
   pub programs : (q : ℕ) → q < g.count → IsProgram (g.programs q)
   pub number : v.current ≡ current
   pub here : current < g.count
-  pub board : IsAt (g.programs current) g.named (moments current) v.board
-  pub limit : v.board.limit ≡ g.limit
-  pub named : g.named ≡ absent_in v.board.named
+  pub board : IsAt (own_run g current) (moments current) v.board
+  pub named : g.absent ≡ absent_in v.board.named
   pub begun : v.board.begun ≡ false
   pub places : ArePlaces g moments current v.contexts
 

@@ -5,7 +5,7 @@ ghost use Rattle.m88_board.specs.Contexts.{StandsFor};
 ghost use Rattle.m88_board.specs.Kept.{most_events};
 ghost use Rattle.m88_board.specs.declared.context.Context.{Context as ContextValue};
 ghost use Rattle.m88_event.specs.Run.{outcome_at};
-ghost use Rattle.m88_event.specs.Timeline.{Moment, is_over};
+ghost use Rattle.m88_event.specs.Timeline.{Moment, Run, is_over};
 ghost use Rattle.m88_isa.specs.Machine.{Program};
 ghost use Rattle.m88_tasks.specs.Shared.{Group, SharedMoment, all_over, first_alive, next_from, outcomes_of, over_at, settled_from, switch_by};
 ghost use Rattle.m88_tasks.specs.Inside.Taking.{AreLeft, AreNumbers, IsOutcomeOf, MayExchange, TookLetter, stays};
@@ -247,8 +247,8 @@ fn outcomes_in(mut contexts: Vec<Option<Context>>, own: Outcome) -> Result<Vec<O
 
 /// Whether the program of a context is over.
 fn is_over(context: &Context) -> bool
-    ensures { (p : Program) (named : ℕ → Bool) (m : Moment) → StandsFor p named m context.now
-        → result ≡ is_over p context.now.book.limit m }
+    ensures { (r : Run) (m : Moment) → StandsFor r m context.now
+        → result ≡ is_over r m }
 {
     context.book.end.is_some() || context.book.retired == context.book.limit
 }

@@ -1,14 +1,13 @@
 -- What the calls of a shared run make of its programs.
-use Rattle.std.specs.Prelude.{ℕ, Bool, List, [], Option, Some, None, ◌≡◌, ◌≢◌, ◌≤◌, ◌<◌, length, true}
+use Rattle.std.specs.Prelude.{ℕ, List, [], Option, Some, None, ◌≡◌, ◌≢◌, ◌≤◌, ◌<◌, length, true}
 use Rattle.m88_board.specs.Contexts.{StandsFor}
 use Rattle.m88_board.specs.declared.context.Context.{Context}
 use Rattle.m88_event.specs.Run.{outcome_at}
-use Rattle.m88_event.specs.Timeline.{Moment, is_over, said_at}
+use Rattle.m88_event.specs.Timeline.{Moment, Run, is_over, said_at}
 use Rattle.m88_event.specs.declared.happened.Happened.{Happened}
 use Rattle.m88_event.specs.declared.letter.Letter.{Letter}
 use Rattle.m88_event.specs.declared.outcome.Outcome.{Outcome}
-use Rattle.m88_isa.specs.Machine.{Program}
-use Rattle.m88_tasks.specs.Shared.{Group, SharedMoment, all_over, moments_then, shared_at}
+use Rattle.m88_tasks.specs.Shared.{Group, SharedMoment, all_over, moments_then, own_run, shared_at}
 use Rattle.m88_tasks.specs.Tasks.{ArePrograms, IsTasksAt, ProgramsView, TasksView, most_programs}
 use Rattle.m88_tasks.specs.declared.shared.Shared.{Shared}
 use Rattle.m88_tasks.specs.declared.shared.Switch.{Switch}
@@ -31,7 +30,7 @@ pub record TookLetter (chosen : Group → (ℕ → Moment) → ℕ → ℕ) (let
       → ArePrograms g (moments_then g letter moments current)
       (chosen g (moments_then g letter moments current) current) new
   pub said : (g : Group) (moments : ℕ → Moment) (current : ℕ) → ArePrograms g moments current old
-      → happened ≡ said_at (g.programs current) g.named g.limit letter (moments current)
+      → happened ≡ said_at (own_run g current) letter (moments current)
 
 -- the one that runs goes on
 abbrev pub stays : Group → (ℕ → Moment) → ℕ → ℕ
@@ -44,8 +43,8 @@ pub record AreLeft (old new : ProgramsView) (before after : List Switch) : Type 
 
 -- it is what the program of a place came to: that of a context, or of the one that runs, which is there already
 pub record IsOutcomeOf (context : Option Context) (own : Option Outcome) (o : Outcome) : Type 0 where
-  pub saved : (p : Program) (named : ℕ → Bool) (m : Moment) (c : Context) → context ≡ Some c
-      → StandsFor p named m c → is_over p c.book.limit m ≡ true → o ≡ outcome_at p m
+  pub saved : (r : Run) (m : Moment) (c : Context) → context ≡ Some c → StandsFor r m c → is_over r m ≡ true
+      → o ≡ outcome_at r.program m
   pub own_is : context ≡ None → own ≡ Some o
 
 -- it is what a shared run came to that is over

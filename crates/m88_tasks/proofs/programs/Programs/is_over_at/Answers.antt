@@ -10,9 +10,8 @@ returns-in-Some c = λ g moments current held.
     let inside = subst (λ (v : ProgramsView). c.args.q < length v.contexts) (sym c.self.view_is) c.requires in
     let at : slice_get c.self.inside.contexts.items c.args.q ≡ Some (Some c.in-Some.context) =
     at_place c.self.inside.contexts.items c.args.q c.index.result.now (Some c.in-Some.context) inside c.index.ensures c.in-Some.is in
-    let place = are.places c.args.q (Some c.in-Some.context) at in
-    place_over g moments current c.args.q c.in-Some.context c.is_over.result place
-    (c.is_over.ensures (g.programs c.args.q) g.named (moments c.args.q) place.1)
+    place_over g moments current c.args.q c.in-Some.context c.is_over.result (are.places c.args.q (Some c.in-Some.context) at)
+    c.is_over.ensures
 
 pub returns-in-None : goal.returns-in-None
 returns-in-None c = λ g moments current held.

@@ -1,8 +1,7 @@
 -- The board makes the event of its program.
 use Rattle.std.proofs.Common.{ℕ, ap, sym, subst, ◌∙◌}
-use Rattle.m88_event.specs.Timeline.{said_at}
 use Rattle.m88_tasks.proofs.Places.{moved}
-use Rattle.m88_tasks.specs.Shared.{moments_then}
+use Rattle.m88_tasks.specs.Shared.{moments_then, own_run}
 use Rattle.m88_tasks.specs.Tasks.{ArePrograms}
 use Rattle.m88_tasks.proofs.programs.Programs.step.Goals as goal
 
@@ -26,6 +25,5 @@ returns-clause-took c = record {
       c.in_ok-happened.ensures.happens.timeline c.in_ok-happened.ensures.happens.same;
   said = λ g moments current held.
       let are = subst (ArePrograms g moments current) (sym c.self.view_is) held in
-      c.in_ok-happened.ensures.happens.said (g.programs current) g.named (moments current) are.board
-      ∙ ap (λ (n : ℕ). said_at (g.programs current) g.named n c.args.letter (moments current)) are.limit;
+      c.in_ok-happened.ensures.happens.said (own_run g current) (moments current) are.board;
 }

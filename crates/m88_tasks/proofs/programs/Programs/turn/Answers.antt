@@ -3,7 +3,7 @@ use Rattle.std.proofs.Common.{rules, ℕ, [], ◌∷◌, ◌++◌, ◌≡◌, �
 use Rattle.std.specs.Prelude.{◌≢◌}
 use Rattle.m88_tasks.proofs.Settling.{next_inside}
 use Rattle.m88_tasks.proofs.Turning.{alone, held, none_pending, same_switch, switched, taken_turn}
-use Rattle.m88_tasks.specs.Shared.{next_from, switch_at}
+use Rattle.m88_tasks.specs.Shared.{next_from, own_run, switch_at}
 use Rattle.m88_tasks.specs.Tasks.{ArePrograms, ProgramsView}
 use Rattle.m88_tasks.specs.declared.shared.Switch.{Switch}
 use Rattle.m88_tasks.specs.declared.turned.Turned.TheVariants as turned
@@ -14,7 +14,7 @@ returns-then-pending-gt0-clause-taken c = λ g s was alive number joined.
     let are = subst (ArePrograms g s.moments s.current) (sym c.self.view_is) was in
     taken_turn g s (turned.Held c.pending-pending.result) c.args.self.now c.args.switches.now.items
     (held g s c.pending-pending.result _ are c.pending-pending.ensures.value
-    (c.pending-pending.ensures.moment (g.programs s.current) g.named (s.moments s.current) are.board) c.if-pending-gt0.true)
+    (c.pending-pending.ensures.moment (own_run g s.current) (s.moments s.current) are.board) c.if-pending-gt0.true)
     was joined
 
 pub returns-then-next-self-clause-taken : goal.returns-then-next-self-clause-taken
@@ -57,7 +57,7 @@ returns-clause-taken c = λ g s was alive number joined.
     c.switch_of-switch.ensures
     ∙ same_switch g s (record { board = c.self.inside.board; contexts = c.self.inside.contexts.items; current = c.self.inside.current })
     c.args.event c.self.inside.current c.next-next.result c.pipe.result are number refl next
-    (c.pipe.ensures.moment (g.programs s.current) g.named (s.moments s.current) are.board) in
+    (c.pipe.ensures.moment (own_run g s.current) (s.moments s.current) are.board) in
     let to : c.switch_of-switch.result.to ≡ c.next-next.result = ap (λ (x : Switch). x.to) c.switch_of-switch.ensures in
     let more : c.push.new.self.items ≡ c.args.switches.now.items ++ (c.switch_of-switch.result ∷ []) = search rules in
     taken_turn g s (turned.Switched c.switch_of-switch.result) c.exchange.new.self c.push.new.self.items

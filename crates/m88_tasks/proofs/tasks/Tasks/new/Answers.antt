@@ -8,6 +8,7 @@ use Rattle.m88_tasks.proofs.Starting.{AreMade, a_group, are_tasks, image_same, m
 use Rattle.m88_tasks.specs.Shared.{opening_shared}
 use Rattle.m88_tasks.specs.Tasks.{ArePrograms}
 use Rattle.m88_tasks.proofs.tasks.Tasks.new.Goals as goal
+use Rattle.m88_event.specs.declared.letter.Letter.{Letter}
 
 pub loop-q-init : goal.loop-q-init
 loop-q-init c =
@@ -24,7 +25,7 @@ loop-q-preserved c =
     let e : c.push-in-loop-q.new.self.items ≡ c.loop-q.contexts.items ++ (Some c.in_ok-context.context ∷ []) = search rules in
     made_next c.args.images.now c.args.absent.now c.args.limit c.loop-q.q c.index-images-q.result c.loop-q.contexts.items
     c.push-in-loop-q.new.self.items c.in_ok-context.context c.loop-q.invariant (omega arith) at c.in_ok-context.ensures.is_image
-    c.in_ok-context.ensures.stands c.in_ok-context.ensures.limit e
+    c.in_ok-context.ensures.stands e
 
 pub new-requires-2 : goal.new-requires-2
 new-requires-2 c =
@@ -34,11 +35,11 @@ new-requires-2 c =
     let made = subst (AreMade c.args.images.now c.args.absent.now c.args.limit c.loop-q.contexts.items) all c.loop-q.invariant in
     let first : slice_get c.args.images.now 0 ≡ Some c.index-images-0.result =
     slice_get_read c.args.images.now (length c.args.images.now) 0 c.index-images-0.result refl (omega (arith, some)) c.index-images-0.is in
-    let at = λ (image : ProgramImage) (there : slice_get c.args.images.now 0 ≡ Some image) (p : Program) (of : IsProgramOf image p) (mode : p.mxm ≡ false).
-    c.in_ok-board.ensures.at p
+    let at = λ (image : ProgramImage) (there : slice_get c.args.images.now 0 ≡ Some image) (p : Program) (schedule : List Letter)
+    (of : IsProgramOf image p) (mode : p.mxm ≡ false). c.in_ok-board.ensures.at p schedule
     (subst (λ (i : ProgramImage). IsProgramOf i p) (image_same image c.index-images-0.result (sym there ∙ first)) of) mode in
     some_start c.args.images.now c.args.absent.now c.args.limit c.in_ok-board.board c.loop-q.contexts.items made c.requires.some c.requires.few
-    c.requires.small at c.in_ok-board.ensures.limit c.in_ok-board.ensures.named c.in_ok-board.ensures.begun
+    c.requires.small at c.in_ok-board.ensures.named c.in_ok-board.ensures.begun
 
 pub invariant_of-result : goal.invariant_of-result
 invariant_of-result c =
@@ -48,14 +49,14 @@ invariant_of-result c =
     let made = subst (AreMade c.args.images.now c.args.absent.now c.args.limit c.loop-q.contexts.items) all c.loop-q.invariant in
     let first : slice_get c.args.images.now 0 ≡ Some c.index-images-0.result =
     slice_get_read c.args.images.now (length c.args.images.now) 0 c.index-images-0.result refl (omega (arith, some)) c.index-images-0.is in
-    let at = λ (image : ProgramImage) (there : slice_get c.args.images.now 0 ≡ Some image) (p : Program) (of : IsProgramOf image p) (mode : p.mxm ≡ false).
-    c.in_ok-board.ensures.at p
+    let at = λ (image : ProgramImage) (there : slice_get c.args.images.now 0 ≡ Some image) (p : Program) (schedule : List Letter)
+    (of : IsProgramOf image p) (mode : p.mxm ≡ false). c.in_ok-board.ensures.at p schedule
     (subst (λ (i : ProgramImage). IsProgramOf i p) (image_same image c.index-images-0.result (sym there ∙ first)) of) mode in
     let g = a_group c.args.images.now c.args.absent.now c.args.limit c.loop-q.contexts.items made in
     are_tasks g.0 c.new-2.result c.new-3.result.items
     (subst (ArePrograms g.0 (opening_shared g.0).moments (opening_shared g.0).current) (sym c.new-2.ensures)
     (starts c.args.images.now c.args.absent.now c.args.limit c.in_ok-board.board c.loop-q.contexts.items g.0 made c.requires.some c.requires.few
-    c.requires.small at c.in_ok-board.ensures.limit c.in_ok-board.ensures.named c.in_ok-board.ensures.begun g.1))
+    c.requires.small at c.in_ok-board.ensures.named c.in_ok-board.ensures.begun g.1))
     c.new-3.ensures.items
 
 pub returns : goal.returns
@@ -66,14 +67,14 @@ returns c =
     let made = subst (AreMade c.args.images.now c.args.absent.now c.args.limit c.loop-q.contexts.items) all c.loop-q.invariant in
     let first : slice_get c.args.images.now 0 ≡ Some c.index-images-0.result =
     slice_get_read c.args.images.now (length c.args.images.now) 0 c.index-images-0.result refl (omega (arith, some)) c.index-images-0.is in
-    let at = λ (image : ProgramImage) (there : slice_get c.args.images.now 0 ≡ Some image) (p : Program) (of : IsProgramOf image p) (mode : p.mxm ≡ false).
-    c.in_ok-board.ensures.at p
+    let at = λ (image : ProgramImage) (there : slice_get c.args.images.now 0 ≡ Some image) (p : Program) (schedule : List Letter)
+    (of : IsProgramOf image p) (mode : p.mxm ≡ false). c.in_ok-board.ensures.at p schedule
     (subst (λ (i : ProgramImage). IsProgramOf i p) (image_same image c.index-images-0.result (sym there ∙ first)) of) mode in
     record {
       at = λ g is. tasks_at g c.new-2.result c.new-3.result.items
           (subst (ArePrograms g (opening_shared g).moments (opening_shared g).current) (sym c.new-2.ensures)
           (starts c.args.images.now c.args.absent.now c.args.limit c.in_ok-board.board c.loop-q.contexts.items g made c.requires.some c.requires.few
-          c.requires.small at c.in_ok-board.ensures.limit c.in_ok-board.ensures.named c.in_ok-board.ensures.begun is))
+          c.requires.small at c.in_ok-board.ensures.named c.in_ok-board.ensures.begun is))
           c.new-3.ensures.items;
       events = refl;
       group = a_group c.args.images.now c.args.absent.now c.args.limit c.loop-q.contexts.items made;
