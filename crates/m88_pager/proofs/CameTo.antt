@@ -1,5 +1,5 @@
 -- The frames are flushed, and what the run came to is told.
-use Rattle.std.specs.Prelude.{ℕ, Bool, List, [], Option, true, ◌≡◌, ◌+◌, ◌^◌}
+use Rattle.std.specs.Prelude.{ℕ, List, [], Option, true, ◌≡◌, ◌+◌, ◌^◌}
 use Rattle.std.specs.BTreeSet.{contains}
 use Rattle.std.specs.Ordering.{nat_cmp}
 use Rattle.std.proofs.Common.{sym, ap, ap₂, subst, ◌∙◌}
@@ -7,9 +7,8 @@ use Rattle.m88_base.specs.Image.{IsImage, ProgramImage}
 use Rattle.m88_board.specs.Board.{BoardView, local_of}
 use Rattle.m88_board.specs.Moves.{IsAt}
 use Rattle.m88_event.specs.Local.{is_over_by}
-use Rattle.m88_event.specs.Run.{IsRun, moment_after, outcome_at}
-use Rattle.m88_event.specs.Timeline.{Moment, is_over}
-use Rattle.m88_event.specs.declared.letter.Letter.{Letter}
+use Rattle.m88_event.specs.Run.{HasEvents, moment_after, outcome_at}
+use Rattle.m88_event.specs.Timeline.{Moment, Run, is_over}
 use Rattle.m88_event.specs.declared.outcome.Outcome.{Outcome}
 use Rattle.m88_isa.proofs.Laws.{program_of_image, state_bus, state_bytes}
 use Rattle.m88_isa.specs.Bus.{bus_after_all, changed_words, in_words}
@@ -93,22 +92,16 @@ came_to p m most image f g o words told now is same value carried flushed change
     }
 
 -- a run that is over has its events, and came to what the last moment says
-pub ends : (p : Program) {named : ℕ → Bool} {limit : ℕ} {schedule : List Letter} {k most : ℕ} (image : ProgramImage)
-    {b last : BoardView} {f : Paging} {told now : Option PageMap} {writes writes' : Option ℕ} {o : Paged} → IsImage image → IsProgramOf image p →
-    b.limit ≡ limit →
-    is_over_by b.limit (local_of b) ≡ true →
-    IsThere p named limit schedule k (image_bytes image) most b f told →
-    last ≡ b →
+pub ends : (r : Run) {k most : ℕ} (image : ProgramImage) {b last : BoardView} {f : Paging} {told now : Option PageMap}
+    {writes writes' : Option ℕ} {o : Paged} → IsImage image → IsProgramOf image r.program →
+    is_over_by b.limit (local_of b) ≡ true → IsThere r k (image_bytes image) most b f told → last ≡ b →
     IsFinished image last f told now writes writes' o →
-    IsRun p named limit schedule k × CameTo p most (moment_after p named limit schedule k) o now
-ends p {named} {limit} {schedule} {k} {most} image {b} {last} {f} {told} is of limits over there same finished =
-    let m : Moment = moment_after p named limit schedule k in
-    let here : is_over p b.limit m ≡ true = over_there p named b.limit m b there.at ∙ over in
-    let so : is_over p limit m ≡ true = ap (λ (n : ℕ). is_over p n m) (sym limits) ∙ here in (
+    HasEvents r k × CameTo r.program most (moment_after r k) o now
+ends r {k} {most} image {b} {last} {f} {told} is of over there same finished =
+    let m : Moment = moment_after r k in
+    let so : is_over r m ≡ true = over_there r m b there.at ∙ over in (
       record { here = so; first = there.first },
-      finished.came p named m most (program_of_image image p is of) (opens_so p image of)
-          (subst (λ (x : BoardView). IsAt p named m x) (sym same) there.at)
-          (ap (λ (x : BoardView). is_over p x.limit m) same ∙ here)
-          (subst (λ (xs : List Access). AreCarried (image_bytes image) most xs f told) (all_done p limit m so)
-          there.carried),
+      finished.came r m most (program_of_image image r.program is of) (opens_so r.program image of)
+          (subst (λ (x : BoardView). IsAt r m x) (sym same) there.at) so
+          (subst (λ (xs : List Access). AreCarried (image_bytes image) most xs f told) (all_done r m so) there.carried),
     )

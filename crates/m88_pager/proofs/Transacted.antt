@@ -1,12 +1,12 @@
 -- The transactions that an event answers or finishes are the oldest pending ones, in order.
-use Rattle.std.specs.Prelude.{ℕ, zero, suc, Bool, List, [], ◌∷◌, ◌++◌, All, ◌≡◌, ◌<◌, ◌≤◌, ◌+◌, ◌-◌, drop, length, map, slice_index_or, take}
+use Rattle.std.specs.Prelude.{ℕ, zero, suc, List, [], ◌∷◌, ◌++◌, All, ◌≡◌, ◌<◌, ◌≤◌, ◌+◌, ◌-◌, drop, length, map, slice_index_or, take}
 use Rattle.std.proofs.Common.{arith, length-drop, length-take, refl, sym, ap, ap₂, subst, ◌∙◌}
 use Rattle.std.proofs.lemmas.List.{get_or-take, take-append-le}
 use Rattle.m88_base.specs.declared.triple.Triple.{Triple}
 use Rattle.m88_event.proofs.Laws.{Fits, fits, more_transactions}
 use Rattle.m88_event.specs.Choice.{Choice, choice_of, evicts, faults, finishes, holds, idles, issues, passes, replies, serves}
 use Rattle.m88_event.specs.Situation.{record_of}
-use Rattle.m88_event.specs.Timeline.{DoneWereMade, Moment, after_choice, after_letter, situation_at}
+use Rattle.m88_event.specs.Timeline.{DoneWereMade, Moment, Run, after_choice, after_letter, situation_at}
 use Rattle.m88_event.specs.declared.letter.Letter.{Letter}
 use Rattle.m88_event.specs.declared.record.Record.{Record}
 use Rattle.m88_isa.proofs.Laws.{told_of}
@@ -57,52 +57,42 @@ turn_done p n done turn more h =
 by_choice : (p : Program) (m : Moment) (choice : Choice) (fault : Record) → m.done ≤ transaction_count p m.retired → Fits p m choice →
     done_of p (after_choice (pending_at p m.retired m.done) choice fault m)
     ≡ done_of p m ++ take ((after_choice (pending_at p m.retired m.done) choice fault m).done - m.done) (pending_at p m.retired m.done)
-by_choice p m idles fault made fit = none_done p m.retired m.done
-by_choice p m passes fault made fit = none_done p m.retired m.done
-by_choice p m (holds why) fault made fit = none_done p m.retired m.done
 by_choice p m (issues change) fault made fit =
     turn_done p m.retired m.done (change_accesses change) (more_transactions p m.retired (changes change) fit.0) made
 by_choice p m (serves byte) fault made fit =
     turn_done p m.retired m.done [] (more_transactions p m.retired (outputs byte) fit.0) made
-by_choice p m (finishes stop) fault made fit = none_done p m.retired m.done
 by_choice p m replies fault made fit = more_done p m.retired m.done (m.done + 1) (omega arith)
 by_choice p m faults fault made fit =
     more_done p m.retired m.done (m.done + length (pending_at p m.retired m.done)) (omega arith)
-by_choice p m evicts fault made fit = none_done p m.retired m.done
+by_choice p m _ fault made fit = none_done p m.retired m.done
 
-pub done_ahead : (p : Program) (named : ℕ → Bool) (limit : ℕ) (letter : Letter) (m : Moment) → DoneWereMade p m →
-    done_of p (after_letter p named limit letter m)
-    ≡ done_of p m ++ take ((after_letter p named limit letter m).done - m.done) (pending_at p m.retired m.done)
+pub done_ahead : (r : Run) (letter : Letter) (m : Moment) → DoneWereMade r.program m →
+    done_of r.program (after_letter r letter m)
+    ≡ done_of r.program m ++ take ((after_letter r letter m).done - m.done) (pending_at r.program m.retired m.done)
 unfolding after_letter
-done_ahead p named limit letter m made =
-    by_choice p m (choice_of p letter (situation_at p named limit m)) (record_of p (situation_at p named limit m)) made
-    (fits p named limit letter m)
+done_ahead r letter m made =
+    by_choice r.program m (choice_of r.program letter (situation_at r m)) (record_of r.program (situation_at r m)) made
+    (fits r letter m)
 
 -- no fewer are done after it, and no more than were made
 done_by : (p : Program) (m : Moment) (choice : Choice) (fault : Record) → m.done ≤ transaction_count p m.retired →
     Fits p m choice →
     (m.done ≤ (after_choice (pending_at p m.retired m.done) choice fault m).done)
     × ((after_choice (pending_at p m.retired m.done) choice fault m).done ≤ transaction_count p m.retired)
-done_by p m idles fault made fit = (omega arith, made)
-done_by p m passes fault made fit = (omega arith, made)
-done_by p m (holds why) fault made fit = (omega arith, made)
-done_by p m (issues change) fault made fit = (omega arith, made)
-done_by p m (serves byte) fault made fit = (omega arith, made)
-done_by p m (finishes stop) fault made fit = (omega arith, made)
 done_by p m replies fault made fit = (omega arith, omega (arith, fit))
 done_by p m faults fault made fit =
     let left = length-drop m.done (transactions p m.retired) in (omega arith, omega (arith, left, made))
-done_by p m evicts fault made fit = (omega arith, made)
+done_by p m _ fault made fit = (omega arith, made)
 
-pub done_after : (p : Program) (named : ℕ → Bool) (limit : ℕ) (letter : Letter) (m : Moment) → DoneWereMade p m →
-    (m.done ≤ (after_letter p named limit letter m).done)
-    × ((after_letter p named limit letter m).done ≤ m.done + length (pending_at p m.retired m.done))
+pub done_after : (r : Run) (letter : Letter) (m : Moment) → DoneWereMade r.program m →
+    (m.done ≤ (after_letter r letter m).done)
+    × ((after_letter r letter m).done ≤ m.done + length (pending_at r.program m.retired m.done))
 unfolding after_letter
-done_after p named limit letter m made =
-    let now = situation_at p named limit m in
-    let done = done_by p m (choice_of p letter now) (record_of p now) made (fits p named limit letter m) in
+done_after r letter m made =
+    let now = situation_at r m in
+    let done = done_by r.program m (choice_of r.program letter now) (record_of r.program now) made (fits r letter m) in
     let high = done.1 in
-    let left = length-drop m.done (transactions p m.retired) in
+    let left = length-drop m.done (transactions r.program m.retired) in
     (done.0, omega (arith, high, left))
 
 -- the words of pending transactions tell the first of them

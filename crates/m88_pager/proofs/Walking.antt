@@ -1,5 +1,5 @@
 -- A board and its frames go along the letters of a run.
-use Rattle.std.specs.Prelude.{ℕ, zero, suc, Bool, true, false, List, [], ◌∷◌, ◌++◌, All, Option, Some, None, IfSome, ◌≡◌, ◌<◌, ◌≤◌, ◌+◌, ◌-◌, ◌*◌, ◌^◌, ◌==◌, ◌||◌, is_some, length, map, take, unwrap_or, if◌then◌else◌}
+use Rattle.std.specs.Prelude.{ℕ, Bool, true, false, List, [], ◌∷◌, ◌++◌, All, Option, Some, None, IfSome, ◌≡◌, ◌<◌, ◌≤◌, ◌+◌, ◌-◌, ◌*◌, ◌^◌, ◌==◌, ◌||◌, is_some, length, map, take, unwrap_or, if◌then◌else◌}
 use Rattle.std.proofs.Common.{add-one, arith, length-take, refl, sym, ap, ap₂, subst, ◌∙◌}
 use Rattle.std.proofs.Math.Path.{fun_ext}
 use Rattle.std.proofs.lemmas.List.{take_all}
@@ -16,7 +16,7 @@ use Rattle.m88_event.proofs.Laws.{same_over}
 use Rattle.m88_event.specs.Letters.{letter_at}
 use Rattle.m88_event.specs.Local.{Local, is_over_by, local_at}
 use Rattle.m88_event.specs.Run.{NotBefore, moment_after, moment_along}
-use Rattle.m88_event.specs.Timeline.{Moment, after_letter, is_over, opening_moment}
+use Rattle.m88_event.specs.Timeline.{Moment, Run, after_letter, is_over, opening_moment}
 use Rattle.m88_event.specs.declared.letter.Letter.{Letter}
 use Rattle.m88_isa.specs.Bus.{bus_after_all, in_words}
 use Rattle.m88_isa.specs.History.{pending_at, transaction_count, transactions}
@@ -93,28 +93,25 @@ none_within n {count} {f} opened =
     record { whole = none_whole f.cache.entries opened.empty; ins = omega (arith, ins); outs = omega (arith, outs) }
 
 -- where a board and its frames are after as many events, before none of which the run was over
-pub record IsThere (p : Program) (named : ℕ → Bool) (limit : ℕ) (schedule : List Letter) (k : ℕ) (original : ℕ → ℕ) (most : ℕ)
-    (b : BoardView) (f : Frames) (told : Option PageMap) : Type 0 where
-  pub at : IsAt p named (moment_after p named limit schedule k) b
-  pub first : NotBefore (λ j. is_over p limit (moment_after p named limit schedule j)) k
-  pub carried : AreCarried original most (done_of p (moment_after p named limit schedule k)) f told
+pub record IsThere (r : Run) (k : ℕ) (original : ℕ → ℕ) (most : ℕ) (b : BoardView) (f : Frames) (told : Option PageMap)
+    : Type 0 where
+  pub at : IsAt r (moment_after r k) b
+  pub first : NotBefore (λ j. is_over r (moment_after r j)) k
+  pub carried : AreCarried original most (done_of r.program (moment_after r k)) f told
 
-pub there_first : (p : Program) (named : ℕ → Bool) (limit : ℕ) (schedule : List Letter) (k : ℕ) (original : ℕ → ℕ)
-    (most : ℕ) (b : BoardView) (f : Frames) (told : Option PageMap) → k ≡ 0 → IsAt p named opening_moment b →
-    AreCarried original most [] f told →
-    IsThere p named limit schedule k original most b f told
+pub there_first : (r : Run) (k : ℕ) (original : ℕ → ℕ) (most : ℕ) (b : BoardView) (f : Frames) (told : Option PageMap) →
+    k ≡ 0 → IsAt r opening_moment b → AreCarried original most [] f told → IsThere r k original most b f told
 unfolding moment_along transactions
-there_first p named limit schedule k original most b f told e at carried =
-    subst (λ (n : ℕ). IsThere p named limit schedule n original most b f told) (sym e) (record {
+there_first r k original most b f told e at carried =
+    subst (λ (n : ℕ). IsThere r n original most b f told) (sym e) (record {
       at = at;
       first = λ j h. absurd (omega (arith, h));
       carried = carried;
     })
 
 -- whether the run is over is seen
-pub over_there : (p : Program) (named : ℕ → Bool) (limit : ℕ) (m : Moment) (b : BoardView) → IsAt p named m b →
-    is_over p limit m ≡ is_over_by limit (local_of b)
-over_there p named limit m b at = sym (same_over p named limit m at.within) ∙ ap (is_over_by limit) (sym at.seen)
+pub over_there : (r : Run) (m : Moment) (b : BoardView) → IsAt r m b → is_over r m ≡ is_over_by b.limit (local_of b)
+over_there r m b at = sym (ap₂ is_over_by at.limit at.seen ∙ same_over r m at.within)
 
 -- of the board that a walk shows
 pub over_shown : {shown b : BoardView} {over : Bool} → shown ≡ b → over ≡ is_over_by shown.limit (local_of shown) →
@@ -122,27 +119,24 @@ pub over_shown : {shown b : BoardView} {over : Bool} → shown ≡ b → over �
 over_shown same over = ap (λ (x : BoardView). is_over_by x.limit (local_of x)) (sym same) ∙ sym over
 
 -- what is pending is that of the moment
-pending_there : (p : Program) (named : ℕ → Bool) (m : Moment) (b : BoardView) → IsAt p named m b → b.pending ≡ pending_at p m.retired m.done
+pending_there : (r : Run) (m : Moment) (b : BoardView) → IsAt r m b → b.pending ≡ pending_at r.program m.retired m.done
 unfolding local_of local_at
-pending_there p named m b at = ap (λ (l : Local). l.pending) at.seen
+pending_there r m b at = ap (λ (l : Local). l.pending) at.seen
 
 -- no fewer transactions are done after an event, and no more than were pending
 done_grew : (letter : Letter) (b c : BoardView) →
-    (p : Program) × (named : ℕ → Bool) × (m : Moment) × IsAt p named m b →
-    ((p : Program) (named : ℕ → Bool) (m : Moment) → IsAt p named m b →
-    IsAt p named (after_letter p named b.limit letter m) c) →
+    (r : Run) × (m : Moment) × IsAt r m b → ((r : Run) (m : Moment) → IsAt r m b → IsAt r (after_letter r letter m) c) →
     (b.done ≤ c.done) × (c.done ≤ b.done + length b.pending)
 done_grew letter b c there next =
-    let p = there.0 in
-    let named = there.1 in
-    let m = there.2 in
-    let at = there.3 in
-    let after = done_after p named b.limit letter m at.within in
+    let r = there.0 in
+    let m = there.1 in
+    let at = there.2 in
+    let after = done_after r letter m at.within in
     let low = after.0 in
     let high = after.1 in
-    let old = done_at p named m b at in
-    let new = done_at p named (after_letter p named b.limit letter m) c (next p named m at) in
-    let left = ap (λ (xs : List Access). length xs) (pending_there p named m b at) in
+    let old = done_at r m b at in
+    let new = done_at r (after_letter r letter m) c (next r m at) in
+    let left = ap (λ (xs : List Access). length xs) (pending_there r m b at) in
     (omega (arith, low, old, new), omega (arith, high, old, new, left))
 
 -- an event answered or finished so many of the words that the data unit held, the oldest first
@@ -156,9 +150,7 @@ pub record AreDoneBy (b c : BoardView) (words : List Triple) (before now : ℕ) 
 
 pub done_shown : (letter : Letter) {b c shown later : BoardView} {words : List Triple} {before now : ℕ} → shown ≡ b → later ≡ c → IsKept shown →
     words ≡ triples_of shown.pending → before ≡ shown.done → now ≡ later.done →
-    (p : Program) × (named : ℕ → Bool) × (m : Moment) × IsAt p named m b →
-    ((p : Program) (named : ℕ → Bool) (m : Moment) → IsAt p named m b →
-    IsAt p named (after_letter p named b.limit letter m) c) →
+    (r : Run) × (m : Moment) × IsAt r m b → ((r : Run) (m : Moment) → IsAt r m b → IsAt r (after_letter r letter m) c) →
     AreDoneBy b c words before now
 done_shown letter {b} {c} {shown} {later} {words} {before} {now} same after kept is starts ends there next =
     let grew = done_grew letter b c there next in
@@ -185,34 +177,28 @@ done_shown letter {b} {c} {shown} {later} {words} {before} {now} same after kept
       long = omega (arith, low, high, taken);
     }
 
-pub there_next : {p : Program} {named : ℕ → Bool} {limit : ℕ} {schedule letters : List Letter} {k last : ℕ}
-    {original : ℕ → ℕ} {most : ℕ} {b c : BoardView} {f g : Frames} {told now : Option PageMap} →
-    b.limit ≡ limit →
-    letters ≡ schedule →
-    last ≡ k + 1 →
-    is_over_by limit (local_of b) ≡ false →
-    IsThere p named limit schedule k original most b f told →
-    ((m : Moment) → IsAt p named m b → IsAt p named (after_letter p named b.limit (letter_at letters k) m) c) →
+pub there_next : {r : Run} {letters : List Letter} {k last : ℕ} {original : ℕ → ℕ} {most : ℕ} {b c : BoardView}
+    {f g : Frames} {told now : Option PageMap} → letters ≡ r.schedule → last ≡ k + 1 →
+    is_over_by b.limit (local_of b) ≡ false →
+    IsThere r k original most b f told →
+    ((m : Moment) → IsAt r m b → IsAt r (after_letter r (letter_at letters k) m) c) →
     ((accesses : List Access) → AreCarried original most accesses f told →
     AreCarried original most (accesses ++ take (c.done - b.done) b.pending) g now) →
-    IsThere p named limit schedule last original most c g now
+    IsThere r last original most c g now
 unfolding moment_along
-there_next {p} {named} {limit} {schedule} {letters} {k} {original} {most} {b} {c} {g} {now} limits same counts goes
-    there next carries =
-    let m : Moment = moment_after p named limit schedule k in
-    let n : Moment = after_letter p named limit (letter_at schedule k) m in
-    let so : after_letter p named b.limit (letter_at letters k) m ≡ n =
-    ap₂ (λ (most : ℕ) (xs : List Letter). after_letter p named most (letter_at xs k) m) limits same in
-    let at : IsAt p named n c = subst (λ (x : Moment). IsAt p named x c) so (next m there.at) in
-    let path : done_of p m ++ take (c.done - b.done) b.pending ≡ done_of p n =
-    ap₂ (λ (count : ℕ) (xs : List Access). done_of p m ++ take count xs)
-    (ap₂ (λ (x y : ℕ). x - y) (done_at p named n c at) (done_at p named m b there.at)) (pending_there p named m b there.at)
-    ∙ sym (done_ahead p named limit (letter_at schedule k) m there.at.within) in
-    subst (λ (j : ℕ). IsThere p named limit schedule j original most c g now) (sym (counts ∙ add-one k)) (record {
+there_next {r} {letters} {k} {original} {most} {b} {c} {g} {now} same counts goes there next carries =
+    let m : Moment = moment_after r k in
+    let n : Moment = after_letter r (letter_at r.schedule k) m in
+    let at : IsAt r n c =
+    subst (λ (xs : List Letter). IsAt r (after_letter r (letter_at xs k) m) c) same (next m there.at) in
+    let path : done_of r.program m ++ take (c.done - b.done) b.pending ≡ done_of r.program n =
+    ap₂ (λ (count : ℕ) (xs : List Access). done_of r.program m ++ take count xs)
+    (ap₂ (λ (x y : ℕ). x - y) (done_at r n c at) (done_at r m b there.at)) (pending_there r m b there.at)
+    ∙ sym (done_ahead r (letter_at r.schedule k) m there.at.within) in
+    subst (λ (j : ℕ). IsThere r j original most c g now) (sym (counts ∙ add-one k)) (record {
       at = at;
-      first = not_yet (λ j. is_over p limit (moment_after p named limit schedule j)) k there.first
-          (over_there p named limit m b there.at ∙ goes);
-      carried = subst (λ (xs : List Access). AreCarried original most xs g now) path (carries (done_of p m) there.carried);
+      first = not_yet (λ j. is_over r (moment_after r j)) k there.first (over_there r m b there.at ∙ goes);
+      carried = subst (λ (xs : List Access). AreCarried original most xs g now) path (carries (done_of r.program m) there.carried);
     })
 
 -- all transactions are done once the run is over
@@ -220,10 +206,10 @@ both_of : (a b : Bool) → (Rattle.std.specs.Prelude.◌&&◌ a b) ≡ true → 
 both_of true b h = refl
 both_of false b h = absurd cc
 
-pub all_done : (p : Program) (limit : ℕ) (m : Moment) → is_over p limit m ≡ true → done_of p m ≡ transactions p m.retired
-all_done p limit m over =
-    let done : m.done ≡ transaction_count p m.retired = eqb-true m.done (transaction_count p m.retired) (both_of _ _ over) in
-    take_all m.done (transactions p m.retired) (omega (arith, done))
+pub all_done : (r : Run) (m : Moment) → is_over r m ≡ true → done_of r.program m ≡ transactions r.program m.retired
+all_done r m over =
+    let done : m.done ≡ transaction_count r.program m.retired = eqb-true m.done (transaction_count r.program m.retired) (both_of _ _ over) in
+    take_all m.done (transactions r.program m.retired) (omega (arith, done))
 
 -- what the pages of a store come to
 page_there : (o : Option (List ℕ)) (original now : List ℕ) (is_written : Bool) → unwrap_or o original ≡ now → (is_some o || false) ≡ is_written →

@@ -51,11 +51,9 @@ rest_stays xs p h =
 
 -- the bytes of a word among others
 in_word : (n word : ℕ) (ys : List ℕ) → n < 4 → slice_index_or (to_be_bytes w32 word ++ ys) n 0 ≡ byte_of word n
-in_word zero word ys h = refl
-in_word (suc zero) word ys h = refl
-in_word (suc (suc zero)) word ys h = refl
 in_word (suc (suc (suc zero))) word ys h = omega arith
 in_word (suc (suc (suc (suc n)))) word ys h = absurd (omega (arith, h))
+in_word _ word ys h = refl
 
 -- the bytes after a word is put among them
 before_put : (xs : List ℕ) (p word i : ℕ) → p + 4 ≤ length xs → i < p →
@@ -168,15 +166,9 @@ word_read bus page p bytes words at h is =
 
 -- memory that is told by its words is told by its bytes
 byte_number : (memory : ℕ → ℕ) (w n : ℕ) → AreBytes memory → n < 4 → byte_of (number_at memory w 4) n ≡ memory (w + n)
-byte_number memory w zero bytes h =
-    let b0 = bytes (w + 0) in let b1 = bytes (w + 1) in let b2 = bytes (w + 2) in let b3 = bytes (w + 3) in omega (arith, b0, b1, b2, b3)
-byte_number memory w (suc zero) bytes h =
-    let b0 = bytes (w + 0) in let b1 = bytes (w + 1) in let b2 = bytes (w + 2) in let b3 = bytes (w + 3) in omega (arith, b0, b1, b2, b3)
-byte_number memory w (suc (suc zero)) bytes h =
-    let b0 = bytes (w + 0) in let b1 = bytes (w + 1) in let b2 = bytes (w + 2) in let b3 = bytes (w + 3) in omega (arith, b0, b1, b2, b3)
-byte_number memory w (suc (suc (suc zero))) bytes h =
-    let b0 = bytes (w + 0) in let b1 = bytes (w + 1) in let b2 = bytes (w + 2) in let b3 = bytes (w + 3) in omega (arith, b0, b1, b2, b3)
 byte_number memory w (suc (suc (suc (suc n)))) bytes h = absurd (omega (arith, h))
+byte_number memory w _ bytes h =
+    let b0 = bytes (w + 0) in let b1 = bytes (w + 1) in let b2 = bytes (w + 2) in let b3 = bytes (w + 3) in omega (arith, b0, b1, b2, b3)
 
 pub bytes_back : (memory : ℕ → ℕ) → AreBytes memory → in_bytes (in_words memory) ≡ memory
 unfolding in_bytes in_words

@@ -10,6 +10,7 @@ use Rattle.m88_pager.specs.Frames.{ins_along, outs_along}
 use Rattle.m88_pager.specs.Pages.{HoldsWhereTold, writes_page}
 use Rattle.m88_pager.specs.Store.{PageMap, WritesMore}
 use Rattle.m88_pager.specs.declared.paged.Paged.{Paged}
+use Rattle.m88_event.specs.Timeline.{Run}
 
 -- the most frames that there may be
 abbrev pub most_frames : ℕ
@@ -31,20 +32,21 @@ pub record AreCounts (p : Program) (frames : ℕ) (o : Paged) : Type 0 where
   pub outs : o.outs ≡ outs_along frames (transactions p o.outcome.retired)
 
 -- it is the outcome of the run but for the words that changed
-abbrev pub IsOutcomeButWords : Program → (ℕ → Bool) → ℕ → List Letter → Outcome → Type 0
-IsOutcomeButWords p named limit schedule o =
-    (words : List (ℕ × ℕ)) × IsOutcome p named limit schedule (record o { changed = words })
+abbrev pub IsOutcomeButWords : Run → Outcome → Type 0
+IsOutcomeButWords r o = (words : List (ℕ × ℕ)) × IsOutcome r (record o { changed = words })
 
 -- what a paged run of a program came to: its outcome, in full where the store tells its pages and else but for the
 -- words that changed; its counts; as many instructions are retired in every run of the program with this limit,
 -- whatever pages are absent and whatever the schedule, so that the counts are those of the program, the limit and the
 -- frames alone; the pages that the store holds; and that a page was put in as often as one is counted that went out
-pub record IsPagedRun (p : Program) (named : ℕ → Bool) (limit : ℕ) (schedule : List Letter) (frames : ℕ)
-    (told told' : Option PageMap) (writes writes' : Option ℕ) (o : Paged) : Type 0 where
-  pub outcome : Tells told → IsOutcome p named limit schedule o.outcome
-  pub but_words : IsOutcomeButWords p named limit schedule o.outcome
-  pub counts : AreCounts p frames o
-  pub alone : (others : ℕ → Bool) (letters : List Letter) (other : Outcome) → IsOutcome p others limit letters other
-      → other.retired ≡ o.outcome.retired
-  pub held : HoldsWhereTold (writes_page (transactions p o.outcome.retired)) (state p o.outcome.retired).memory told'
+pub record IsPagedRun (r : Run) (frames : ℕ) (told told' : Option PageMap) (writes writes' : Option ℕ) (o : Paged)
+    : Type 0 where
+  pub outcome : Tells told → IsOutcome r o.outcome
+  pub but_words : IsOutcomeButWords r o.outcome
+  pub counts : AreCounts r.program frames o
+  pub alone : (others : ℕ → Bool) (letters : List Letter) (other : Outcome)
+      → IsOutcome (record r { absent = others; schedule = letters }) other → other.retired ≡ o.outcome.retired
+  pub held :
+      HoldsWhereTold (writes_page (transactions r.program o.outcome.retired)) (state r.program o.outcome.retired).memory
+      told'
   pub written : WritesMore o.outs writes writes'

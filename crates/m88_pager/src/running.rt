@@ -1,8 +1,9 @@
 //! A whole run on a board whose transactions are carried out a second time in frames.
 
-ghost use Rattle.std.specs.Prelude.{ℕ, Bool, ◌≡◌, ◌≤◌, ◌+◌, ◌*◌, false, length, IfOk, OnOk};
+ghost use Rattle.std.specs.Prelude.{ℕ, ◌≡◌, ◌≤◌, ◌+◌, ◌*◌, false, length, IfOk, OnOk};
 ghost use Rattle.std.specs.NonZero.{non_zero_usize_get};
 ghost use Rattle.m88_event.specs.Run.{IsOutcome};
+ghost use Rattle.m88_event.specs.Timeline.{Run, run_with};
 ghost use Rattle.m88_event.specs.declared.outcome.Outcome.{Outcome as OutcomeValue};
 ghost use Rattle.m88_isa.specs.ImageProgram.{IsProgramOf};
 ghost use Rattle.m88_isa.specs.Machine.{Program};
@@ -44,11 +45,9 @@ pub fn page_run<P: PageStore>(
     requires most { frames ≤ most_frames }
     requires empty { HoldsNoneWhereTold (P.pages store.old) }
     ensures run { IfOk result (λ o. (p : Program) → IsProgramOf image.now p → p.mxm ≡ false
-        → IsPagedRun p (absent_in absent.now) limit schedule.now frames (P.pages store.old)
+        → IsPagedRun (run_with p (absent_in absent.now) limit schedule.now) frames (P.pages store.old)
         (P.pages store.new) (P.writes store.old) (P.writes store.new) o) }
-    ensures only { (p : Program) (named : ℕ → Bool) (o other : OutcomeValue)
-        → IsOutcome p named limit schedule.now o → IsOutcome p named limit schedule.now other
-        → o ≡ other }
+    ensures only { (r : Run) (o other : OutcomeValue) → IsOutcome r o → IsOutcome r other → o ≡ other }
     ensures within { IfOk result (λ o. o.outcome.events ≤ length schedule.now + 8 * limit + 8) }
     ensures program { (p : Program) × IsProgramOf image.now p × (p.mxm ≡ false) }
     ensures store { UsesStore (P.pages store.old) (P.pages store.new) (P.faults store.old)

@@ -14,13 +14,13 @@ returns-clause-finished g c =
     let o : Outcome = c.in_ok-outcome.outcome in
     let words = c.in_ok-changed.changed.items in
     record {
-      came = λ p named m most is same at over carried.
-          subst (λ (xs : List (ℕ × ℕ)). CameTo p most m (record { outcome = record o { changed = xs }; ins = flushed.ins; outs = flushed.outs }) (g.P.PageStore.pages c.changed_words.new.store))
+      came = λ r m most is same at over carried.
+          subst (λ (xs : List (ℕ × ℕ)). CameTo r.program most m (record { outcome = record o { changed = xs }; ins = flushed.ins; outs = flushed.outs }) (g.P.PageStore.pages c.changed_words.new.store))
           (sym c.new.ensures)
-          (subst (λ (told : Option PageMap). CameTo p most m (record { outcome = record o { changed = words }; ins = flushed.ins; outs = flushed.outs }) told)
+          (subst (λ (told : Option PageMap). CameTo r.program most m (record { outcome = record o { changed = words }; ins = flushed.ins; outs = flushed.outs }) told)
           (sym c.in_ok-changed.ensures.store.same)
-          (came_to p m most c.args.image.now c.args.paging flushed o words (g.P.PageStore.pages c.args.store.now)
-          (g.P.PageStore.pages c.flush.new.store) is same (c.in_ok-outcome.ensures.moment p named m at over) carried
+          (came_to r.program m most c.args.image.now c.args.paging flushed o words (g.P.PageStore.pages c.args.store.now)
+          (g.P.PageStore.pages c.flush.new.store) is same (c.in_ok-outcome.ensures.moment r m at over) carried
           c.in_ok-flush.ensures.flushed c.in_ok-changed.ensures.changed));
       events = c.in_ok-outcome.ensures.events;
       written =

@@ -3,12 +3,11 @@ use Rattle.std.specs.Borrow.{Bor}
 use Rattle.std.specs.Prelude.{ℕ, List, false, length, ◌≡◌}
 use Rattle.std.proofs.Common.{arith, refl, sym, ap, subst, ◌∙◌}
 use Rattle.std.proofs.lemmas.Result.{IfOk-weaker}
-use Rattle.m88_board.specs.Board.{BoardView, local_of}
+use Rattle.m88_board.specs.Board.{BoardView}
 use Rattle.m88_board.specs.Moves.{IsAt}
 use Rattle.m88_event.proofs.Laws.{one_outcome}
-use Rattle.m88_event.specs.Local.{is_over_by}
 use Rattle.m88_event.specs.Run.{IsOutcome, moment_after, outcome_at}
-use Rattle.m88_event.specs.Timeline.{opening_moment}
+use Rattle.m88_event.specs.Timeline.{Run, opening_moment, run_with}
 use Rattle.m88_event.specs.declared.letter.Letter.{Letter}
 use Rattle.m88_mem.specs.DataBus.{image_bytes}
 use Rattle.m88_mem.specs.Marks.{absent_in}
@@ -36,11 +35,12 @@ loop-walk-init g c =
       written =
           subst (λ (n : ℕ). PutsOut 0 n (g.P.PageStore.writes c.args.store.now) (g.P.PageStore.writes c.args.store.now)) (sym opened.outs) refl;
       there = λ p of clear.
-          let named = absent_in c.args.absent.now in
-          there_first p named c.args.limit c.args.schedule.now c.new-walk.result.taken (image_bytes c.args.image.now)
+          let r : Run = run_with p (absent_in c.args.absent.now) c.args.limit c.args.schedule.now in
+          there_first r c.new-walk.result.taken (image_bytes c.args.image.now)
           c.args.frames c.new-walk.result.board.now c.in_ok-paging.paging (g.P.PageStore.pages c.args.store.now)
           c.new-walk.ensures.taken
-          (subst (λ (b : BoardView). IsAt p named opening_moment b) (sym c.new-walk.ensures.board) (made.at p of clear))
+          (subst (λ (b : BoardView). IsAt r opening_moment b) (sym c.new-walk.ensures.board)
+          (made.at p c.args.schedule.now of clear))
           (none_carried (image_bytes c.args.image.now) c.args.frames c.in_ok-paging.paging
           (g.P.PageStore.pages c.args.store.now) bytes cap opened c.requires.empty);
     }
@@ -49,9 +49,7 @@ pub loop-walk-preserved : goal.loop-walk-preserved
 loop-walk-preserved g c =
     let inv = c.loop-walk.invariant in
     let stepped = c.in_ok-step.ensures.stepped in
-    let goes : is_over_by c.args.limit (local_of c.loop-walk.walk.board.now) ≡ false =
-    ap (λ (n : ℕ). is_over_by n (local_of c.loop-walk.walk.board.now)) (sym inv.limit)
-    ∙ over_shown c.board-in-loop-walk.ensures c.is_over.ensures.value ∙ c.loop-walk-test.true in
+    let goes = over_shown c.board-in-loop-walk.ensures c.is_over.ensures.value ∙ c.loop-walk-test.true in
     record {
       limit = stepped.stays.same.limit ∙ inv.limit;
       schedule = ap (λ (s : Bor (List Letter)). s.now) stepped.stays.schedule ∙ inv.schedule;
@@ -62,21 +60,20 @@ loop-walk-preserved g c =
       clean = c.in_ok-step.ensures.store.uses.clean ∙ inv.clean;
       written = then_put 0 _ _ _ _ _ inv.written c.in_ok-step.ensures.store.written;
       there = λ p of clear.
-          there_next inv.limit inv.schedule stepped.taken goes (inv.there p of clear)
-          (λ m at. stepped.at p (absent_in c.args.absent.now) m at) (stepped.carried.carried c.args.frames);
+          there_next inv.schedule stepped.taken goes (inv.there p of clear) (λ m at. stepped.at _ m at)
+          (stepped.carried.carried c.args.frames);
     }
 
 pub step-requires : goal.step-requires
 step-requires g c =
-    let p = c.new.ensures.program.0 in
-    let named = absent_in c.args.absent.now in
+    let some = c.new.ensures.program in
+    let r : Run = run_with some.0 (absent_in c.args.absent.now) c.args.limit c.args.schedule.now in
     record {
       going = over_shown c.board-in-loop-walk.ensures c.is_over.ensures.value ∙ c.loop-walk-test.true;
       there = (
-        p,
-        named,
-        moment_after p named c.args.limit c.args.schedule.now c.loop-walk.walk.taken,
-        (c.loop-walk.invariant.there p c.new.ensures.program.1 c.new.ensures.program.2).at,
+        r,
+        moment_after r c.loop-walk.walk.taken,
+        (c.loop-walk.invariant.there some.0 some.1 some.2).at,
       );
       within = c.loop-walk.invariant.within;
     }
@@ -85,29 +82,28 @@ pub returns-clause-run : goal.returns-clause-run
 returns-clause-run g c = IfOk-weaker c.finish.result _ _
     (λ o finished p of clear.
     let inv = c.loop-walk.invariant in
-    let absent = absent_in c.args.absent.now in
-    let letters = c.args.schedule.now in
+    let r : Run = run_with p (absent_in c.args.absent.now) c.args.limit c.args.schedule.now in
     let k = c.loop-walk.walk.taken in
     let over = over_shown c.board-in-loop-walk.ensures c.is_over.ensures.value ∙ c.loop-walk-test.false in
-    let ended = ends p c.args.image.now c.new.ensures.is_image of inv.limit over (inv.there p of clear)
+    let ended = ends r c.args.image.now c.new.ensures.is_image of over (inv.there p of clear)
     (c.board-in-loop-walk-1.given.1 (sym (inv.lender ∙ c.new-walk.ensures.lender))) finished in
-    let changed = (outcome_at p (moment_after p absent c.args.limit letters k)).changed in
-    let but_words : IsOutcome p absent c.args.limit letters (record o.outcome { changed = changed }) =
+    let changed = (outcome_at p (moment_after r k)).changed in
+    let but_words : IsOutcome r (record o.outcome { changed = changed }) =
     record { events = k; run = ended.0; value = ended.1.but_words } in
     record {
       outcome = λ tells.
           record { events = k; run = ended.0; value = ended.1.outcome (tells_on _ _ (c.finish.ensures.store.tells ∙ inv.tells) tells) };
       but_words = (changed, but_words);
       counts = ended.1.counts;
-      alone = λ named others other run.
-          one_retired p c.args.limit named absent others letters other (record o.outcome { changed = changed }) run but_words;
+      alone = λ others letters other run.
+          one_retired r others letters other (record o.outcome { changed = changed }) run but_words;
       held = ended.1.pages;
       written = all_put o.outs _ _ (then_put 0 _ _ _ _ _ inv.written finished.written);
     })
     c.finish.ensures.finished
 
 pub returns-clause-only : goal.returns-clause-only
-returns-clause-only g c = λ p named o other. one_outcome p named c.args.limit c.args.schedule.now o other
+returns-clause-only g c = λ r o other. one_outcome r o other
 
 pub returns-clause-within : goal.returns-clause-within
 returns-clause-within g c = IfOk-weaker c.finish.result _ _

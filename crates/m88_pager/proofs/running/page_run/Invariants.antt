@@ -10,6 +10,7 @@ use Rattle.m88_pager.proofs.Walking.{IsThere}
 use Rattle.m88_pager.specs.Inside.Calls.{PutsOut}
 use Rattle.m88_pager.specs.Inside.Seen.{AreWithin}
 use Rattle.m88_pager.proofs.running.page_run.Given as goal
+use Rattle.m88_event.specs.Timeline.{run_with}
 
 abbrev pub invariant-loop-walk : goal.invariant-loop-walk
 invariant-loop-walk g l = record {
@@ -22,7 +23,7 @@ invariant-loop-walk g l = record {
   clean : g.P.PageStore.faults l.store ≡ g.P.PageStore.faults l.initial.store;
   written : PutsOut 0 l.paging.outs (g.P.PageStore.writes l.initial.store) (g.P.PageStore.writes l.store);
   there : (p : Program) → IsProgramOf l.image p → p.mxm ≡ false
-      → IsThere p (absent_in l.absent) l.limit l.fn.schedule l.walk.taken (image_bytes l.image) l.frames
+      → IsThere (run_with p (absent_in l.absent) l.limit l.fn.schedule) l.walk.taken (image_bytes l.image) l.frames
       l.walk.board.now l.paging (g.P.PageStore.pages l.store);
 }
 
