@@ -35,14 +35,12 @@ same_line number at word (changes change) bus fits =
     ap (λ (xs : List Access). head_text number at word ++ written_text change.register ++ accesses_text xs bus
     ++ line_end)
     (listed_recorded change.touches fits.short)
-same_line number at word (outputs byte) bus fits = refl
-same_line number at word (stops stop) bus fits = refl
+same_line number at word _ bus fits = refl
 
 -- and so is whether the program ends by it
 pub same_end : (turn : Turn) → ends_by (doing_of turn) ≡ is_stop turn
 same_end (changes change) = refl
-same_end (outputs byte) = refl
-same_end (stops stop) = refl
+same_end _ = refl
 
 -- of a state by words, what a follower has
 abbrev seen_by : Completed → Seen
@@ -60,8 +58,7 @@ after_by (changes change) c fits =
     let cells = after_accesses xs (record { regs = with_written change.register c.regs; bus = c.bus }) in
     record { regs = cells.regs; carry = change.carry; pc = change.after.0; next = change.after.1; bus = cells.bus })
     (sym (listed_recorded change.touches fits.short))
-after_by (outputs byte) c fits = refl
-after_by (stops stop) c fits = refl
+after_by _ c fits = refl
 
 pub doing_fits : (p : Program) (n : ℕ) → IsProgram p → TurnFits (turn_at p (state p n))
 doing_fits p n is = turn_fits p (state p n).regs (state p n).carry (state p n).mxm (state p n).pc (state p n).next is

@@ -68,9 +68,8 @@ lines_there p n has k less = some_there p k (not_ended_at p k (λ j h. has j (om
 stop_stays : (p : Program) (n : ℕ) (turn : Turn) → turn_at p (state p n) ≡ turn → is_stop turn ≡ true →
     state p (suc n) ≡ state p n
 unfolding state
-stop_stays p n (changes change) e stop = absurd cc
-stop_stays p n (outputs byte) e stop = absurd cc
 stop_stays p n (stops how) e stop = rw e refl
+stop_stays p n _ e stop = absurd cc
 
 stays_stopped : (p : Program) (n more : ℕ) → is_stop (turn_at p (state p n)) ≡ true →
     is_stop (turn_at p (state p (n + more))) ≡ true

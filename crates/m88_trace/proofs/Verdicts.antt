@@ -66,9 +66,8 @@ one_place line text a b x y =
     omega (arith, low, high)
 
 no_empty : (o : Option (List ℕ)) (more : List ℕ) → is_some o ≡ true → o ≢ Some [] → unwrap_or o [] ++ more ≡ [] → ⊥
-no_empty None more some h e = cc
 no_empty (Some []) more some h e = h refl
-no_empty (Some (x ∷ xs)) more some h e = cc
+no_empty _ more some h e = cc
 
 -- a text of more lines than another isn't the same
 shorter : (line : ℕ → Option (List ℕ)) (a b : ℕ) (rest : List ℕ) → ((k : ℕ) → line k ≢ Some []) → HasLines line b →

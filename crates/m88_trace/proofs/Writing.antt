@@ -350,11 +350,8 @@ whatever_words s bus after e =
     ∙ written_all s.text.items s.waiting.items bus e
 
 none_left : (xs : List Access) → length xs ≤ 3 → drop 1 (drop 1 (drop 1 xs)) ≡ []
-none_left [] few = refl
-none_left (a ∷ []) few = refl
-none_left (a ∷ b ∷ []) few = refl
-none_left (a ∷ b ∷ c ∷ []) few = refl
 none_left (a ∷ b ∷ c ∷ d ∷ rest) few = absurd (omega arith)
+none_left _ few = refl
 
 -- one datum after the other is written
 pub three_filled : (due : Data) (s t u v : Sheet) → HasFilled due.oldest s t → HasFilled due.second t u →

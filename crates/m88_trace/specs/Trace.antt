@@ -2,9 +2,8 @@
 use Rattle.std.specs.Prelude.{ℕ, zero, suc, Bool, false, List, [], Option, Some, None, ◌≡◌, ◌+◌, unwrap_or, if◌then◌else◌}
 use Rattle.std.specs.Int.{from_be_bytes, w32}
 use Rattle.m88_event.specs.Bound.{one_if}
-use Rattle.m88_event.specs.Run.{IsRun, moment_after}
-use Rattle.m88_event.specs.Timeline.{Moment}
-use Rattle.m88_event.specs.declared.letter.Letter.{Letter}
+use Rattle.m88_event.specs.Run.{HasEvents, moment_after}
+use Rattle.m88_event.specs.Timeline.{Moment, Run}
 use Rattle.m88_isa.specs.Bus.{in_words}
 use Rattle.m88_isa.specs.Held.{is_stop}
 use Rattle.m88_isa.specs.Machine.{Program, State, four_bytes, state, turn_at}
@@ -37,8 +36,7 @@ abbrev pub trace_at : Program → Moment → List ℕ
 trace_at p m = text_of_first (trace_line p) (m.retired + one_if m.ended)
 
 -- a text is the trace at the end of a run
-pub record IsRunTrace (p : Program) (named : ℕ → Bool) (limit : ℕ) (schedule : List Letter) (text : List ℕ) : Type 0
-  where
-    pub events : ℕ
-    pub run : IsRun p named limit schedule events
-    pub value : text ≡ trace_at p (moment_after p named limit schedule events)
+pub record IsRunTrace (r : Run) (text : List ℕ) : Type 0 where
+  pub events : ℕ
+  pub run : HasEvents r events
+  pub value : text ≡ trace_at r.program (moment_after r events)

@@ -4,6 +4,7 @@ ghost use Rattle.std.specs.Prelude.{ℕ, ◌≡◌, ◌≤◌, false, IfOk, OnOk
 ghost use Rattle.m88_board.specs.Board.{local_of};
 ghost use Rattle.m88_board.specs.Kept.{most_retired};
 ghost use Rattle.m88_event.specs.Local.{is_over_by};
+ghost use Rattle.m88_event.specs.Timeline.{run_with};
 ghost use Rattle.m88_isa.specs.ImageProgram.{IsProgramOf};
 ghost use Rattle.m88_isa.specs.Machine.{Program};
 ghost use Rattle.m88_mem.specs.Marks.{NamesPages, absent_in};
@@ -31,7 +32,7 @@ pub fn trace_run(
     requires pages { NamesPages absent.now }
     requires small { limit ≤ most_retired }
     ensures run { IfOk result (λ text. (p : Program) → IsProgramOf image.now p → p.mxm ≡ false
-        → IsRunTrace p (absent_in absent.now) limit schedule.now text.items) }
+        → IsRunTrace (run_with p (absent_in absent.now) limit schedule.now) text.items) }
 
     // It depends on the program and the limit alone, and it is checked as the lines that it has.
     ensures alone { IfOk result (λ text. (p : Program) → IsProgramOf image.now p → p.mxm ≡ false

@@ -3,7 +3,7 @@
 ghost use Rattle.std.specs.Prelude.{ℕ, Bool, ◌≡◌, OnOk};
 ghost use Rattle.m88_board.specs.Told.{IsTold};
 ghost use Rattle.m88_event.specs.Past.{HasPast};
-ghost use Rattle.m88_event.specs.Timeline.{DoneWereMade, Moment, absent_at, after_letter, said_at};
+ghost use Rattle.m88_event.specs.Timeline.{DoneWereMade, Moment, Run, absent_at, after_letter, said_at};
 ghost use Rattle.m88_event.specs.declared.letter.Letter.TheVariants as letters;
 ghost use Rattle.m88_isa.specs.Bus.{listed};
 ghost use Rattle.m88_isa.specs.History.{bus_at, pending_at};
@@ -31,11 +31,11 @@ impl Sheet {
         happened: Happened,
     ) -> Result<(), NoMemory>
         requires { CanAdd told.now.plan self.old }
-        ensures traced { OnOk result ((p : Program) (named : ℕ → Bool) (limit : ℕ) (m : Moment)
-            → IsProgram p → HasPast p limit m → DoneWereMade p m
-            → IsNext p m next.now → IsTold p named limit m happened told.now
-            → happened ≡ said_at p named limit letters.Issue m → IsTraced p m self.old
-            → IsTraced p (after_letter p named limit letters.Issue m) self.new) }
+        ensures traced { OnOk result ((r : Run) (m : Moment)
+            → IsProgram r.program → HasPast r m → DoneWereMade r.program m
+            → IsNext r.program m next.now → IsTold r m happened told.now
+            → happened ≡ said_at r letters.Issue m → IsTraced r.program m self.old
+            → IsTraced r.program (after_letter r letters.Issue m) self.new) }
         ensures made { OnOk result (AreMade self.new) }
     {
         match happened {
@@ -63,12 +63,12 @@ impl Sheet {
     /// Writes what an event of `r` adds, by the data that were seen before it.
     pub(crate) fn note_answer(&mut self, due: Data, happened: Happened)
         requires { AreMade self.old }
-        ensures traced { (p : Program) (named : ℕ → Bool) (limit : ℕ) (m : Moment)
-            → HasPast p limit m → DoneWereMade p m
-            → AreDue due (pending_at p m.retired m.done) (absent_at named m)
-            (bus_at p m.retired m.done)
-            → happened ≡ said_at p named limit letters.Answer m → IsTraced p m self.old
-            → IsTraced p (after_letter p named limit letters.Answer m) self.new }
+        ensures traced { (r : Run) (m : Moment)
+            → HasPast r m → DoneWereMade r.program m
+            → AreDue due (pending_at r.program m.retired m.done) (absent_at r m)
+            (bus_at r.program m.retired m.done)
+            → happened ≡ said_at r letters.Answer m → IsTraced r.program m self.old
+            → IsTraced r.program (after_letter r letters.Answer m) self.new }
         ensures made { AreMade self.new }
     {
         match happened {

@@ -2,7 +2,7 @@
 
 ghost use Rattle.std.specs.Prelude.{ℕ, Bool};
 ghost use Rattle.m88_board.specs.Moves.{IsAt};
-ghost use Rattle.m88_event.specs.Timeline.{Moment};
+ghost use Rattle.m88_event.specs.Timeline.{Moment, Run};
 ghost use Rattle.m88_isa.specs.Machine.{Program};
 ghost use Rattle.m88_trace.specs.Inside.Running.{IsNext};
 
@@ -19,8 +19,8 @@ pub struct Upcoming {
 
 /// The next instruction of a board.
 pub(crate) fn upcoming_on(board: &Board) -> Upcoming
-    ensures { (p : Program) (named : ℕ → Bool) (m : Moment) → IsAt p named m board.now
-        → IsNext p m result }
+    ensures { (r : Run) (m : Moment) → IsAt r m board.now
+        → IsNext r.program m result }
 {
     Upcoming {
         number: board.issued(),

@@ -1,12 +1,12 @@
 -- A trace that is being written of a run on a board.
-use Rattle.std.specs.Prelude.{ℕ, Bool, false, ◌≡◌, ◌<◌, ◌+◌}
+use Rattle.std.specs.Prelude.{false, ◌≡◌, ◌<◌, ◌+◌}
 use Rattle.m88_board.specs.Board.{local_of}
 use Rattle.m88_board.specs.Calls.{StaysOnRun}
 use Rattle.m88_board.specs.Moves.{IsAt}
 use Rattle.m88_board.specs.declared.walk.Walk.{Walk}
 use Rattle.m88_event.specs.Bound.{weight}
 use Rattle.m88_event.specs.Letters.{letter_at}
-use Rattle.m88_event.specs.Timeline.{Moment, after_letter}
+use Rattle.m88_event.specs.Timeline.{Moment, Run, after_letter}
 use Rattle.m88_isa.specs.History.{bus_at, pending_at}
 use Rattle.m88_isa.specs.Machine.{IsProgram, Program, state}
 use Rattle.m88_trace.specs.Inside.Sheets.{AreMade, sheet_accesses, sheet_text}
@@ -27,11 +27,10 @@ pub record IsNext (p : Program) (m : Moment) (next : Upcoming) : Type 0 where
 -- the next event of a walk is made, and what it adds to the trace is written
 pub record HasTracedStep (w v : Walk) (s t : Sheet) : Type 0 where
   pub made : AreMade t
-  pub at : (p : Program) (named : ℕ → Bool) (m : Moment) → IsAt p named m w.board.now
-      → IsAt p named (after_letter p named w.board.now.limit (letter_at w.schedule.now w.taken) m) v.board.now
-  pub traced : (p : Program) (named : ℕ → Bool) (m : Moment) → IsProgram p → IsAt p named m w.board.now
-      → IsTraced p m s
-      → IsTraced p (after_letter p named w.board.now.limit (letter_at w.schedule.now w.taken) m) t
+  pub at : (r : Run) (m : Moment) → IsAt r m w.board.now
+      → IsAt r (after_letter r (letter_at w.schedule.now w.taken) m) v.board.now
+  pub traced : (r : Run) (m : Moment) → IsProgram r.program → IsAt r m w.board.now → IsTraced r.program m s
+      → IsTraced r.program (after_letter r (letter_at w.schedule.now w.taken) m) t
   pub taken : v.taken ≡ w.taken + 1
   pub lighter : weight v.schedule.now v.board.now.limit v.taken (local_of v.board.now)
       < weight w.schedule.now w.board.now.limit w.taken (local_of w.board.now)

@@ -15,18 +15,17 @@ pub returns-in_ok-happened-in-Issue : goal.returns-in_ok-happened-in-Issue
 returns-in_ok-happened-in-Issue c = ok_both c.note_issue.result c.note_issue.ensures.made c.note_issue.ensures.traced
     (λ made noted.
     let w = c.args.walk.now in
-    let limit = w.board.now.limit in
     let letter : letter_at w.schedule.now w.taken ≡ Issue = sym c.letter.ensures ∙ c.in-Issue.is in
     let next = c.in_ok-happened-in-Issue.ensures in
     record {
       made = made;
-      at = λ p named m at. (next.goes.ok p named m at).at;
-      traced = λ p named m is at traced.
-          let there = subst (λ (b : BoardView). IsAt p named m b) (sym c.board.ensures) at in
-          subst (λ (l : Letter). IsTraced p (after_letter p named limit l m) c.note_issue.new.self) (sym letter)
-          (noted p named limit m is at.past at.within (c.upcoming_on-next.ensures p named m there)
-          (next.told letter p named m at)
-          (next.goes.event.happens.said p named m at ∙ ap (λ (l : Letter). said_at p named limit l m) letter) traced);
+      at = λ r m at. (next.goes.ok r m at).at;
+      traced = λ r m is at traced.
+          let there = subst (λ (b : BoardView). IsAt r m b) (sym c.board.ensures) at in
+          subst (λ (l : Letter). IsTraced r.program (after_letter r l m) c.note_issue.new.self) (sym letter)
+          (noted r m is at.past at.within (c.upcoming_on-next.ensures r m there)
+          (next.told letter r m at)
+          (next.goes.event.happens.said r m at ∙ ap (λ (l : Letter). said_at r l m) letter) traced);
       taken = next.goes.takes.taken;
       lighter = next.goes.takes.lighter;
       stays = next.goes.takes.stays;
@@ -35,19 +34,18 @@ returns-in_ok-happened-in-Issue c = ok_both c.note_issue.result c.note_issue.ens
 pub returns-in_ok-happened-in-Answer : goal.returns-in_ok-happened-in-Answer
 returns-in_ok-happened-in-Answer c =
     let w = c.args.walk.now in
-    let limit = w.board.now.limit in
     let letter : letter_at w.schedule.now w.taken ≡ Answer = sym c.letter.ensures ∙ c.in-Answer.is in
     let next = c.in_ok-happened-in-Answer.ensures in
     record {
       made = c.note_answer.ensures.made;
-      at = λ p named m at. (next.goes.ok p named m at).at;
-      traced = λ p named m is at traced.
-          let there = subst (λ (b : BoardView). IsAt p named m b) (sym c.board-in-Answer.ensures) at in
-          let due = data_at p named m c.board-in-Answer.result.now c.args.sheet.now c.data-due.result there traced
-          (c.data-due.ensures (few_wait p limit m c.args.sheet.now at.past traced)) in
-          subst (λ (l : Letter). IsTraced p (after_letter p named limit l m) c.note_answer.new.self) (sym letter)
-          (c.note_answer.ensures.traced p named limit m at.past at.within due
-          (next.goes.event.happens.said p named m at ∙ ap (λ (l : Letter). said_at p named limit l m) letter) traced);
+      at = λ r m at. (next.goes.ok r m at).at;
+      traced = λ r m is at traced.
+          let there = subst (λ (b : BoardView). IsAt r m b) (sym c.board-in-Answer.ensures) at in
+          let due = data_at r m c.board-in-Answer.result.now c.args.sheet.now c.data-due.result there traced
+          (c.data-due.ensures (few_wait r m at.past c.args.sheet.now traced)) in
+          subst (λ (l : Letter). IsTraced r.program (after_letter r l m) c.note_answer.new.self) (sym letter)
+          (c.note_answer.ensures.traced r m at.past at.within due
+          (next.goes.event.happens.said r m at ∙ ap (λ (l : Letter). said_at r l m) letter) traced);
       taken = next.goes.takes.taken;
       lighter = next.goes.takes.lighter;
       stays = next.goes.takes.stays;
@@ -60,10 +58,10 @@ returns-in_ok-next-in-Evict c =
     let next = c.in_ok-next-in-Evict.ensures in
     record {
       made = c.requires.made;
-      at = λ p named m at. (next.goes.ok p named m at).at;
-      traced = λ p named m is at traced.
-          subst (λ (l : Letter). IsTraced p (after_letter p named w.board.now.limit l m) c.args.sheet.now) (sym letter)
-          (evicted_note p named w.board.now.limit m c.args.sheet.now traced);
+      at = λ r m at. (next.goes.ok r m at).at;
+      traced = λ r m is at traced.
+          subst (λ (l : Letter). IsTraced r.program (after_letter r l m) c.args.sheet.now) (sym letter)
+          (evicted_note r m c.args.sheet.now traced);
       taken = next.goes.takes.taken;
       lighter = next.goes.takes.lighter;
       stays = next.goes.takes.stays;

@@ -3,8 +3,8 @@ use Rattle.std.proofs.Common.{ℕ, List, Bor, ◌≡◌, ◌+◌, false, true, r
 use Rattle.m88_event.specs.Bound.{one_if}
 use Rattle.m88_event.specs.Local.{is_over_by}
 use Rattle.m88_event.specs.Past.{HasPast}
-use Rattle.m88_event.specs.Run.{moment_after}
-use Rattle.m88_event.specs.Timeline.{is_over, opening_moment}
+use Rattle.m88_event.specs.Run.{HasEvents, moment_after}
+use Rattle.m88_event.specs.Timeline.{Moment, Run, is_over, opening_moment, run_with}
 use Rattle.m88_event.specs.declared.letter.Letter.{Letter}
 use Rattle.m88_isa.proofs.Laws.{program_of_image}
 use Rattle.m88_mem.specs.Marks.{absent_in}
@@ -12,6 +12,8 @@ use Rattle.m88_board.specs.Board.{BoardView, local_of}
 use Rattle.m88_board.specs.Moves.{IsAt}
 use Rattle.m88_trace.proofs.Runs.{over_alone, over_empty, over_seen, over_text, runs_first, runs_next}
 use Rattle.m88_trace.proofs.running.trace_run.Goals as goal
+use Rattle.m88_trace.specs.Trace.{trace_at}
+use Rattle.m88_isa.specs.Machine.{Program}
 
 pub loop-walk-init : goal.loop-walk-init
 loop-walk-init c = record {
@@ -19,11 +21,10 @@ loop-walk-init c = record {
   schedule = c.new-walk.ensures.schedule;
   made = c.new-sheet.ensures.made;
   runs = λ p of clear.
-      runs_first p (absent_in c.args.absent.now) c.args.limit c.args.schedule.now c.new-walk.result.taken
-      c.new-walk.result.board.now
-      c.new-sheet.result c.new-walk.ensures.taken
-      (subst (λ (b : BoardView). IsAt p (absent_in c.args.absent.now) opening_moment b) (sym c.new-walk.ensures.board)
-      (c.in_ok-board.ensures.at p of clear))
+      let r : Run = run_with p (absent_in c.args.absent.now) c.args.limit c.args.schedule.now in
+      runs_first r c.new-walk.result.taken c.new-walk.result.board.now c.new-sheet.result c.new-walk.ensures.taken
+      (subst (λ (b : BoardView). IsAt r opening_moment b) (sym c.new-walk.ensures.board)
+      (c.in_ok-board.ensures.at p c.args.schedule.now of clear))
       c.new-sheet.ensures.text c.new-sheet.ensures.waiting;
 }
 
@@ -36,66 +37,52 @@ loop-walk-preserved c =
       schedule = ap (λ (s : Bor (List Letter)). s.now) stepped.stays.schedule ∙ inv.schedule;
       made = stepped.made;
       runs = λ p of clear.
+          let r : Run = run_with p (absent_in c.args.absent.now) c.args.limit c.args.schedule.now in
+          let m : Moment = moment_after r c.loop-walk.walk.taken in
           let runs = inv.runs p of clear in
-          let named = absent_in c.args.absent.now in
-          let m = moment_after p named c.args.limit c.args.schedule.now c.loop-walk.walk.taken in
-          let goes : is_over p c.args.limit m ≡ false =
-          over_seen p named c.args.limit m c.board.result.now c.loop-walk.walk.board.now c.is_over.result
-          c.board.ensures inv.limit runs.at
-          (c.is_over.ensures.moment p named m) ∙ c.loop-walk-test.true in
-          runs_next p named c.args.limit c.loop-walk.walk.board.now.limit c.args.schedule.now
-          c.loop-walk.walk.schedule.now
-          c.loop-walk.walk.taken c.loop-walk.walk.taken c.step.new.walk.taken c.loop-walk.walk.board.now
-          c.step.new.walk.board.now
-          c.loop-walk.sheet c.step.new.sheet inv.limit inv.schedule refl stepped.taken runs goes
-          (stepped.at p named m runs.at)
-          (stepped.traced p named m (program_of_image c.args.image.now p c.new.ensures.is_image of) runs.at
-          runs.traced);
+          let goes : is_over r m ≡ false =
+          over_seen r m c.board.result.now c.loop-walk.walk.board.now c.is_over.result c.board.ensures runs.at
+          (c.is_over.ensures.moment r m) ∙ c.loop-walk-test.true in
+          runs_next r c.loop-walk.walk.schedule.now c.loop-walk.walk.taken c.step.new.walk.taken c.loop-walk.walk.board.now
+          c.step.new.walk.board.now c.loop-walk.sheet c.step.new.sheet inv.schedule stepped.taken runs goes
+          (stepped.at r m runs.at)
+          (stepped.traced r m (program_of_image c.args.image.now p c.new.ensures.is_image of) runs.at runs.traced);
     }
+
+-- behind the last event: the run is over, and the text is its trace
+ended : (c : goal.After-finish) (p : Program) → IsProgramOf c.args.image.now p → p.mxm ≡ false →
+    let r : Run = run_with p (absent_in c.args.absent.now) c.args.limit c.args.schedule.now in
+    let m : Moment = moment_after r c.loop-walk.walk.taken in
+    HasPast r m × HasEvents r c.loop-walk.walk.taken × (c.finish.result.items ≡ trace_at p m)
+ended c p of clear =
+    let r : Run = run_with p (absent_in c.args.absent.now) c.args.limit c.args.schedule.now in
+    let m : Moment = moment_after r c.loop-walk.walk.taken in
+    let runs = c.loop-walk.invariant.runs p of clear in
+    let over : is_over r m ≡ true =
+    over_seen r m c.board.result.now c.loop-walk.walk.board.now c.is_over.result c.board.ensures runs.at
+    (c.is_over.ensures.moment r m) ∙ c.loop-walk-test.false in (
+      runs.at.past,
+      record { here = over; first = runs.first },
+      c.finish.ensures _ (over_empty r m c.loop-walk.sheet runs.traced over) ∙ runs.traced.text,
+    )
 
 pub returns-clause-run : goal.returns-clause-run
 returns-clause-run c = λ p of clear.
-    let inv = c.loop-walk.invariant in
-    let runs = inv.runs p of clear in
-    let named = absent_in c.args.absent.now in
-    let m = moment_after p named c.args.limit c.args.schedule.now c.loop-walk.walk.taken in
-    let over : is_over p c.args.limit m ≡ true =
-    over_seen p named c.args.limit m c.board.result.now c.loop-walk.walk.board.now c.is_over.result c.board.ensures
-    inv.limit runs.at
-    (c.is_over.ensures.moment p named m) ∙ c.loop-walk-test.false in
-    record {
-      events = c.loop-walk.walk.taken;
-      run = record { here = over; first = runs.first };
-      value = c.finish.ensures _ (over_empty p c.args.limit m c.loop-walk.sheet runs.traced over) ∙ runs.traced.text;
-    }
+    let end = ended c p of clear in
+    record { events = c.loop-walk.walk.taken; run = end.1; value = end.2 }
 
 pub returns-clause-alone : goal.returns-clause-alone
 returns-clause-alone c = λ p of clear.
-    let inv = c.loop-walk.invariant in
-    let runs = inv.runs p of clear in
-    let named = absent_in c.args.absent.now in
-    let m = moment_after p named c.args.limit c.args.schedule.now c.loop-walk.walk.taken in
-    let over : is_over p c.args.limit m ≡ true =
-    over_seen p named c.args.limit m c.board.result.now c.loop-walk.walk.board.now c.is_over.result c.board.ensures
-    inv.limit runs.at
-    (c.is_over.ensures.moment p named m) ∙ c.loop-walk-test.false in
-    c.finish.ensures _ (over_empty p c.args.limit m c.loop-walk.sheet runs.traced over) ∙ runs.traced.text
-    ∙ over_alone p c.args.limit m (subst (λ (n : ℕ). HasPast p n m) inv.limit runs.at.past) over
+    let r : Run = run_with p (absent_in c.args.absent.now) c.args.limit c.args.schedule.now in
+    let end = ended c p of clear in
+    end.2 ∙ over_alone r (moment_after r c.loop-walk.walk.taken) end.0 end.1.here
 
 pub returns-clause-checked : goal.returns-clause-checked
 returns-clause-checked c = λ p of clear.
-    let inv = c.loop-walk.invariant in
-    let runs = inv.runs p of clear in
-    let named = absent_in c.args.absent.now in
-    let m = moment_after p named c.args.limit c.args.schedule.now c.loop-walk.walk.taken in
-    let over : is_over p c.args.limit m ≡ true =
-    over_seen p named c.args.limit m c.board.result.now c.loop-walk.walk.board.now c.is_over.result c.board.ensures
-    inv.limit runs.at
-    (c.is_over.ensures.moment p named m) ∙ c.loop-walk-test.false in (
-      m.retired + one_if m.ended,
-      over_text p c.args.limit m c.finish.result.items (subst (λ (n : ℕ). HasPast p n m) inv.limit runs.at.past)
-          (c.finish.ensures _ (over_empty p c.args.limit m c.loop-walk.sheet runs.traced over) ∙ runs.traced.text),
-    )
+    let r : Run = run_with p (absent_in c.args.absent.now) c.args.limit c.args.schedule.now in
+    let m : Moment = moment_after r c.loop-walk.walk.taken in
+    let end = ended c p of clear in
+    (m.retired + one_if m.ended, over_text r m c.finish.result.items end.0 end.2)
 
 pub step-requires-clause-going : goal.step-requires-clause-going
 step-requires-clause-going c =

@@ -8,6 +8,7 @@ use Rattle.m88_board.specs.Board.{local_of}
 use Rattle.m88_trace.proofs.Runs.{Runs}
 use Rattle.m88_trace.specs.Inside.Sheets.{AreMade}
 use Rattle.m88_trace.proofs.running.trace_run.Given as goal
+use Rattle.m88_event.specs.Timeline.{run_with}
 
 abbrev pub invariant-loop-walk : goal.invariant-loop-walk
 invariant-loop-walk l = record {
@@ -15,7 +16,7 @@ invariant-loop-walk l = record {
   schedule : l.walk.schedule.now ≡ l.fn.schedule;
   made : AreMade l.sheet;
   runs : (p : Program) → IsProgramOf l.fn.image p → p.mxm ≡ false
-      → Runs p (absent_in l.fn.absent) l.fn.limit l.fn.schedule l.walk.taken l.walk.board.now l.sheet;
+      → Runs (run_with p (absent_in l.fn.absent) l.fn.limit l.fn.schedule) l.walk.taken l.walk.board.now l.sheet;
 }
 
 abbrev pub decreases-loop-walk : goal.decreases-loop-walk

@@ -5,8 +5,8 @@ use Rattle.m88_trace.proofs.Nexts.{pc_at}
 use Rattle.m88_trace.proofs.upcoming.upcoming_on.Goals as goal
 
 pub returns : goal.returns
-returns c = λ p named m at. record {
-  number = c.issued.ensures.moment p named m at;
+returns c = λ r m at. record {
+  number = c.issued.ensures.moment r m at;
   place = λ straight.
-      ap (λ (s : Slot). s.addr) c.next_slot.ensures.value ∙ pc_at p named m c.args.board.now at straight;
+      ap (λ (s : Slot). s.addr) c.next_slot.ensures.value ∙ pc_at r m c.args.board.now at straight;
 }

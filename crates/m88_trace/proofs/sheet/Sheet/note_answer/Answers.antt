@@ -8,22 +8,22 @@ use Rattle.m88_trace.proofs.Noting.{answer_quiet, answered_note, fault_chosen, f
 use Rattle.m88_trace.proofs.sheet.Sheet.note_answer.Goals as goal
 
 pub returns-in-Answered-clause-traced : goal.returns-in-Answered-clause-traced
-returns-in-Answered-clause-traced c = λ p named limit m past made are says traced.
-    answered_note p named limit m c.args.self.now c.fill.new.self c.args.due.oldest _
+returns-in-Answered-clause-traced c = λ r m past made are says traced.
+    answered_note r m c.args.self.now c.fill.new.self traced c.args.due.oldest _
     (sym c.in-Answered.is ∙ says)
-    (and_others c.args.due.oldest (pending_at p m.retired m.done) (bus_at p m.retired m.done) are.oldest)
-    c.fill.ensures traced
+    (and_others c.args.due.oldest (pending_at r.program m.retired m.done) (bus_at r.program m.retired m.done) are.oldest)
+    c.fill.ensures
 
 pub returns-in-Faulted-clause-traced : goal.returns-in-Faulted-clause-traced
-returns-in-Faulted-clause-traced c = λ p named limit m past made are says traced.
-    faulted_note p named limit m c.args.self.now c.fill_all.new.self c.in-Faulted.field-0 c.args.due past made
+returns-in-Faulted-clause-traced c = λ r m past made are says traced.
+    faulted_note r m c.args.self.now c.fill_all.new.self traced c.in-Faulted.field-0 c.args.due past made
     (sym c.in-Faulted.is ∙ says)
-    (are.all (fault_chosen p named limit m c.in-Faulted.field-0 (sym c.in-Faulted.is ∙ says)))
-    c.fill_all.ensures traced
+    (are.all (fault_chosen r m c.in-Faulted.field-0 (sym c.in-Faulted.is ∙ says)))
+    c.fill_all.ensures
 
 pub returns-in_default-clause-traced : goal.returns-in_default-clause-traced
-returns-in_default-clause-traced c = λ p named limit m past made are says traced.
-    traced_same p (after_letter p named limit Answer m) m c.args.self.now
-    (answer_quiet p named limit m (λ e. c.in_default.not-Answered (says ∙ sym e))
+returns-in_default-clause-traced c = λ r m past made are says traced.
+    traced_same r.program (after_letter r Answer m) m c.args.self.now
+    (answer_quiet r m (λ e. c.in_default.not-Answered (says ∙ sym e))
     (λ was e. c.in_default.not-Faulted was (says ∙ sym e)))
     traced

@@ -11,30 +11,29 @@ use Rattle.m88_trace.proofs.sheet.Sheet.note_issue.Goals as goal
 pub returns-in-Issued-clause-traced : goal.returns-in-Issued-clause-traced
 returns-in-Issued-clause-traced c =
     ok_on c.note_issued.result c.note_issued.ensures.added
-    (λ added p named limit m is past made seen tells says traced.
-    issued_note p named limit m c.args.self.now c.note_issued.new.self c.args.next.now c.args.told.now is past made seen
-    (subst (λ (h : Happened). IsTold p named limit m h c.args.told.now) c.in-Issued.is tells)
-    (sym c.in-Issued.is ∙ says) added traced)
+    (λ added r m is past made seen tells says traced.
+    issued_note r m c.args.self.now c.note_issued.new.self traced c.args.next.now c.args.told.now is past made seen
+    (subst (λ (h : Happened). IsTold r m h c.args.told.now) c.in-Issued.is tells)
+    (sym c.in-Issued.is ∙ says) added)
 
 pub returns-in-Served-clause-traced : goal.returns-in-Served-clause-traced
 returns-in-Served-clause-traced c =
     ok_on c.put_out.result c.put_out.ensures
-    (λ added p named limit m is past made seen tells says traced.
-    served_note p named limit m c.args.self.now c.put_out.new.self c.args.next.now c.args.told.now c.in-Served.byte is
-    past made seen (subst (λ (h : Happened). IsTold p named limit m h c.args.told.now) c.in-Served.is tells)
-    (sym c.in-Served.is ∙ says) added traced)
+    (λ added r m is past made seen tells says traced.
+    served_note r m c.args.self.now c.put_out.new.self traced c.args.next.now c.args.told.now c.in-Served.byte is
+    past made seen (subst (λ (h : Happened). IsTold r m h c.args.told.now) c.in-Served.is tells)
+    (sym c.in-Served.is ∙ says) added)
 
 pub returns-in-Ended-clause-traced : goal.returns-in-Ended-clause-traced
 returns-in-Ended-clause-traced c =
     ok_on c.end.result c.end.ensures
-    (λ added p named limit m is past made seen tells says traced.
-    ended_note p named limit m c.args.self.now c.end.new.self c.in-Ended.end is past (sym c.in-Ended.is ∙ says)
-    added traced)
+    (λ added r m is past made seen tells says traced.
+    ended_note r m c.args.self.now c.end.new.self traced c.in-Ended.end is past (sym c.in-Ended.is ∙ says) added)
 
 pub returns-in_default-clause-traced : goal.returns-in_default-clause-traced
-returns-in_default-clause-traced c = λ p named limit m is past made seen tells says traced.
-    traced_same p (after_letter p named limit Issue m) m c.args.self.now
-    (issue_quiet p named limit m (λ e. c.in_default.not-Issued (says ∙ sym e))
+returns-in_default-clause-traced c = λ r m is past made seen tells says traced.
+    traced_same r.program (after_letter r Issue m) m c.args.self.now
+    (issue_quiet r m (λ e. c.in_default.not-Issued (says ∙ sym e))
     (λ byte e. c.in_default.not-Served byte (says ∙ sym e))
     (λ end e. c.in_default.not-Ended end (says ∙ sym e)))
     traced
