@@ -15,7 +15,7 @@ use Rattle.m88_event.specs.Choice.{Choice, answer_choice, choice_of, evicts, fau
 use Rattle.m88_event.specs.Letters.{letter_at}
 use Rattle.m88_event.specs.Run.{moment_after, moment_along}
 use Rattle.m88_event.specs.Situation.{record_of}
-use Rattle.m88_event.specs.Timeline.{Moment, absent_at, after_choice, after_letter, is_idle, record_at, situation_at}
+use Rattle.m88_event.specs.Timeline.{Moment, Run, absent_at, after_choice, after_letter, is_idle, record_at, situation_at}
 use Rattle.m88_event.specs.declared.letter.Letter.{Letter}
 use Rattle.m88_event.specs.declared.letter.Letter.TheVariants.{Issue, Answer, Evict}
 use Rattle.m88_event.specs.declared.record.Record.{Record}
@@ -44,8 +44,7 @@ use Rattle.m88_serving.specs.Serving.{serving_with}
 -- an instruction that goes on with changes means these
 served_not : (service : Service) (vector pc : ℕ) (change : Change) → turn_of_service service vector pc ≡ changes change → ⊥
 served_not (Out byte) vector pc change e = cc
-served_not End vector pc change e = cc
-served_not Unserved vector pc change e = cc
+served_not _ vector pc change e = cc
 
 went : (m : Meaning) (regs : List ℕ) (pc : ℕ) (change : Change) → carried_out m regs pc ≡ changes change → m ≡ goes change
 went (raises vector) regs pc change e = absurd cc
@@ -74,8 +73,7 @@ free_turn p m (changes change) is e free =
     free_fetched (four_bytes p.byte (state p m.retired).pc) (p.instruction (state p m.retired).pc) (state p m.retired).regs (state p m.retired).carry
     (state p m.retired).mxm (state p m.retired).pc (state p m.retired).next (pending_at p m.retired m.done) change
     (is.instructions (state p m.retired).pc) e free
-free_turn p m (outputs byte) is e free = tt
-free_turn p m (stops stop) is e free = tt
+free_turn p m _ is e free = tt
 
 not_busy : (least : Option ℕ) (no_room waits : Bool) → first_reason least no_room waits ≡ None → least ≡ None
 not_busy (Some register) no_room waits h = absurd cc
@@ -104,12 +102,12 @@ free_answer : (p : Program) (m : Moment) (pending : List Access) (absent : ℕ �
 free_answer p m [] absent = tt
 free_answer p m (x ∷ xs) absent = free_page p m (absent (page_number x.addr))
 
-free_choice : (p : Program) (named : ℕ → Bool) (limit : ℕ) (letter : Letter) (m : Moment) → IsProgram p
-    → IsFree p m (choice_of p letter (situation_at p named limit m))
+free_choice : (r : Run) (letter : Letter) (m : Moment) → IsProgram r.program
+    → IsFree r.program m (choice_of r.program letter (situation_at r m))
 unfolding situation_at
-free_choice p named limit Issue m is = free_issue p m (is_idle limit m) m.bubble is
-free_choice p named limit Answer m is = free_answer p m (pending_at p m.retired m.done) (absent_at named m)
-free_choice p named limit Evict m is = tt
+free_choice r Issue m is = free_issue r.program m (is_idle r m) m.bubble is
+free_choice r Answer m is = free_answer r.program m (pending_at r.program m.retired m.done) (absent_at r m)
+free_choice r Evict m is = tt
 
 -- registers and words of the history
 abbrev cells_of : Completed → Cells
@@ -239,28 +237,24 @@ finished p n done is leads =
 -- so it stays by each choice, and is at each moment of a run
 led : (p : Program) (m : Moment) (choice : Choice) (fault : Record) → IsProgram p → Fits p m choice → IsFree p m choice → Leads p m.retired m.done
     → Leads p (after_choice (pending_at p m.retired m.done) choice fault m).retired (after_choice (pending_at p m.retired m.done) choice fault m).done
-led p m idles fault is fit free leads = leads
-led p m passes fault is fit free leads = leads
-led p m (holds why) fault is fit free leads = leads
 led p m (issues change) fault is fit free leads = issued p m.retired m.done change is fit.0 free leads
 led p m (serves byte) fault is fit free leads = put_out p m.retired m.done byte is fit.0 leads
-led p m (finishes stop) fault is fit free leads = leads
 led p m replies fault is fit free leads = answered p m.retired m.done fit leads
 led p m faults fault is fit free leads = finished p m.retired m.done is leads
-led p m evicts fault is fit free leads = leads
+led p m _ fault is fit free leads = leads
 
 opened : (p : Program) → Leads p 0 0
 unfolding transactions state opening after_accesses bus_after_all completed_state
 opened p = record { made = omega arith; regs = replicate 32 0; long = refl; cells = refl }
 
-led_along : (p : Program) (named : ℕ → Bool) (limit : ℕ) (schedule : List Letter) (k : ℕ) → IsProgram p
-    → Leads p (moment_after p named limit schedule k).retired (moment_after p named limit schedule k).done
+led_along : (r : Run) (k : ℕ) → IsProgram r.program
+    → Leads r.program (moment_after r k).retired (moment_after r k).done
 unfolding moment_along after_letter
-led_along p named limit schedule zero is = opened p
-led_along p named limit schedule (suc k) is =
-    let m : Moment = moment_after p named limit schedule k in
-    led p m (choice_of p (letter_at schedule k) (situation_at p named limit m)) (record_of p (situation_at p named limit m)) is
-    (fits p named limit (letter_at schedule k) m) (free_choice p named limit (letter_at schedule k) m is) (led_along p named limit schedule k is)
+led_along r zero is = opened r.program
+led_along r (suc k) is =
+    let m : Moment = moment_after r k in
+    led r.program m (choice_of r.program (letter_at r.schedule k) (situation_at r m)) (record_of r.program (situation_at r m)) is
+    (fits r (letter_at r.schedule k) m) (free_choice r (letter_at r.schedule k) m is) (led_along r k is)
 
 -- a register that is loaded has what the access loads
 its_value : (x : Access) (c : Cells) (r : ℕ) → loads x r ≡ true → length c.regs ≡ 32 → slice_index (after_access x c).regs r ≡ loaded x c.bus
@@ -315,23 +309,23 @@ cells_left s = record { regs = (after_service s).numbers; bus = (after_service s
 
 pub each_service_catches_up : EachServiceCatchesUp
 unfolding record_of situation_at in_words moment_along completed_state
-each_service_catches_up = λ p is named limit schedule k.
-    let m : Moment = moment_after p named limit schedule k in
-    let pending : List Access = pending_at p m.retired m.done in
-    let s : Serving = serving_with (record_at p named limit m) (bus_at p m.retired m.done) in
-    let leads : Leads p m.retired m.done = led_along p named limit schedule k is in
-    let bare : Cells = record { regs = replicate 32 0; bus = bus_at p m.retired m.done } in
-    let full : Cells = record { regs = leads.regs; bus = bus_at p m.retired m.done } in
+each_service_catches_up = λ r k is.
+    let m : Moment = moment_after r k in
+    let pending : List Access = pending_at r.program m.retired m.done in
+    let s : Serving = serving_with (record_at r m) (bus_at r.program m.retired m.done) in
+    let leads : Leads r.program m.retired m.done = led_along r k is in
+    let bare : Cells = record { regs = replicate 32 0; bus = bus_at r.program m.retired m.done } in
+    let full : Cells = record { regs = leads.regs; bus = bus_at r.program m.retired m.done } in
     let made : cells_left s ≡ after_accesses pending bare =
     served_cells pending s refl refl refl
     (All-weaker IsCalled IsWordAccess (λ a called. called.made) pending
-    (All-drop IsCalled m.done (transactions p m.retired) (transactions_told p m.retired)))
-    (few_pending p limit m (past_after p named limit schedule k)) in
+    (All-drop IsCalled m.done (transactions r.program m.retired) (transactions_told r.program m.retired)))
+    (few_pending r m (past_after r k)) in
     record {
       memory =
           ap (λ (c : Cells). c.bus) made ∙ cells_bus pending bare ∙ sym (cells_bus pending full) ∙ ap (λ (c : Cells). c.bus) leads.cells;
-      registers = λ r it.
-          ap (λ (c : Cells). slice_index c.regs r) made
-          ∙ loaded_alike pending bare full r (member_of (waits_for pending) r (beyond_waits_not pending) it) refl refl leads.long
-          ∙ ap (λ (c : Cells). slice_index c.regs r) leads.cells;
+      registers = λ n it.
+          ap (λ (c : Cells). slice_index c.regs n) made
+          ∙ loaded_alike pending bare full n (member_of (waits_for pending) n (beyond_waits_not pending) it) refl refl leads.long
+          ∙ ap (λ (c : Cells). slice_index c.regs n) leads.cells;
     }

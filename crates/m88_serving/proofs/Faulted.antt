@@ -15,12 +15,12 @@ use Rattle.m88_event.specs.Past.{HasPast}
 use Rattle.m88_event.specs.Run.{moment_after}
 use Rattle.m88_event.specs.Shadow.{status_of}
 use Rattle.m88_event.specs.Situation.{record_of}
-use Rattle.m88_event.specs.Timeline.{Moment, record_at, situation_at}
+use Rattle.m88_event.specs.Timeline.{Moment, Run, record_at, situation_at}
 use Rattle.m88_event.specs.declared.record.Record.{Record}
 use Rattle.m88_isa.proofs.Laws.{by_test, told_of, valid_of}
 use Rattle.m88_isa.specs.Bus.{waits_for}
 use Rattle.m88_isa.specs.History.{bus_at, pending_at, transactions}
-use Rattle.m88_isa.specs.Machine.{Program, state}
+use Rattle.m88_isa.specs.Machine.{state}
 use Rattle.m88_isa.specs.Triples.{access_in, accesses_in, dmt_of, is_valid_triple, triple_of, triple_or_none, triples_of}
 use Rattle.m88_isa.specs.declared.planned.Access.{Access}
 use Rattle.m88_report.specs.Report.{status_line, triple_line, word_line}
@@ -126,16 +126,16 @@ at_most_three (a ∷ b ∷ c ∷ []) r few told status are ssbr =
 at_most_three (a ∷ b ∷ c ∷ d ∷ xs) r few told status are ssbr = absurd (omega (arith, few))
 
 -- of a moment
-pub few_pending : (p : Program) (limit : ℕ) (m : Moment) → HasPast p limit m → length (pending_at p m.retired m.done) ≤ 3
-few_pending p limit m past =
-    let size = length-drop m.done (transactions p m.retired) in omega (arith, size, past.pending)
+pub few_pending : (r : Run) (m : Moment) → HasPast r m → length (pending_at r.program m.retired m.done) ≤ 3
+few_pending r m past =
+    let size = length-drop m.done (transactions r.program m.retired) in omega (arith, size, past.pending)
 
-sound_record : (p : Program) (named : ℕ → Bool) (limit : ℕ) (m : Moment) → HasPast p limit m → record_fault (record_at p named limit m) ≡ None
+sound_record : (r : Run) (m : Moment) → HasPast r m → record_fault (record_at r m) ≡ None
 unfolding record_of situation_at
-sound_record p named limit m past =
-    at_most_three (pending_at p m.retired m.done) (record_at p named limit m) (few_pending p limit m past)
-    (All-drop IsCalled m.done (transactions p m.retired) (transactions_told p m.retired))
-    (fits_status (state p m.retired).carry (state p m.retired).mxm) refl refl
+sound_record r m past =
+    at_most_three (pending_at r.program m.retired m.done) (record_at r m) (few_pending r m past)
+    (All-drop IsCalled m.done (transactions r.program m.retired) (transactions_told r.program m.retired))
+    (fits_status (state r.program m.retired).carry (state r.program m.retired).mxm) refl refl
 
 -- its lines, and those of the words, are accepted
 told_again : (r : Record) (t0 t1 t2 : Triple) → r.triples ≡ t0 ∷ t1 ∷ t2 ∷ [] → record_with (status_of_record r) t0 t1 t2 ≡ record r { event = 0 }
@@ -196,8 +196,8 @@ served r xs bus words are none small called shown =
 
 pub each_fault_is_served : EachFaultIsServed
 unfolding record_of situation_at
-each_fault_is_served = λ p named limit schedule k words small shown.
-    let m : Moment = moment_after p named limit schedule k in
-    served (record_at p named limit m) (pending_at p m.retired m.done) (bus_at p m.retired m.done) words refl
-    (sound_record p named limit m (past_after p named limit schedule k)) small
-    (All-drop IsCalled m.done (transactions p m.retired) (transactions_told p m.retired)) shown
+each_fault_is_served = λ r k words small shown.
+    let m : Moment = moment_after r k in
+    served (record_at r m) (pending_at r.program m.retired m.done) (bus_at r.program m.retired m.done) words refl
+    (sound_record r m (past_after r k)) small
+    (All-drop IsCalled m.done (transactions r.program m.retired) (transactions_told r.program m.retired)) shown

@@ -30,11 +30,7 @@ by_bytes : (new : ℕ → Option ℕ) (at value : ℕ) (bytes : List ℕ) → le
     → number_at (λ a. unwrap_or (new a) 0) at 4 ≡ value
 by_bytes new at value (b0 ∷ b1 ∷ b2 ∷ b3 ∷ []) four there made =
     made b0 b1 b2 b3 refl (there 0 (omega arith)) (there 1 (omega arith)) (there 2 (omega arith)) (there 3 (omega arith))
-by_bytes new at value [] four there made = absurd (omega (arith, four))
-by_bytes new at value (b0 ∷ []) four there made = absurd (omega (arith, four))
-by_bytes new at value (b0 ∷ b1 ∷ []) four there made = absurd (omega (arith, four))
-by_bytes new at value (b0 ∷ b1 ∷ b2 ∷ []) four there made = absurd (omega (arith, four))
-by_bytes new at value (b0 ∷ b1 ∷ b2 ∷ b3 ∷ b4 ∷ bs) four there made = absurd (omega (arith, four))
+by_bytes new at value _ four there made = absurd (omega (arith, four))
 
 -- a number of four bytes that are found where those of a word were put
 word_there : (found : ℕ → Option ℕ) (at value : ℕ) (bytes : List ℕ) → value < 2 ^ 32 → bytes ≡ to_be_bytes w32 value → length bytes ≡ 4

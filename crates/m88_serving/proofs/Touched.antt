@@ -162,14 +162,8 @@ effect_told (instr.Imm op d s1 imm) x = computes_told d (immediate op x.carry x.
 effect_told (instr.Regs op d s1 s2) x = computes_told d (registers op x.carry x.s1 x.s2) x
 effect_told (instr.MemImm op d s1 imm) x = accesses_told op d (address x.s1 imm 1) x
 effect_told (instr.MemReg op d s1 s2 scaled usr) x = indexed_told op d scaled usr x
-effect_told (instr.Lda size d s1 s2) x = none
-effect_told (instr.BitLit op d s1 width offset) x = none
-effect_told (instr.BitReg op d s1 s2) x = none
-effect_told (instr.Find ones d s2) x = none
-effect_told (instr.Branch link delayed words) x = none
 effect_told (instr.BranchBit set delayed bit s1 words) x = branches_told (bit_is set bit x.s1) delayed words x
 effect_told (instr.BranchCond delayed mask s1 words) x = branches_told (class_in mask x.s1) delayed words x
-effect_told (instr.Jump link delayed s2) x = none
 effect_told (instr.TrapBit set bit s1 vector) x = traps_told (bit_is set bit x.s1) vector x
 effect_told (instr.TrapCond mask s1 vector) x = traps_told (class_in mask x.s1) vector x
 effect_told (instr.BoundImm s1 imm) x = checks_told x.s1 imm x
@@ -179,6 +173,7 @@ effect_told (instr.Ldcr d cr float) x = controls_told float
 effect_told (instr.Stcr s1 cr float) x = controls_told float
 effect_told (instr.Xcr d s1 cr float) x = controls_told float
 effect_told (instr.Sfu unit rest) x = tt
+effect_told _ x = none
 
 meaning_told : (i : Instr) (regs : List ℕ) (carry mxm : Bool) (pc next : ℕ) → MeansTold (meaning_of i regs carry mxm pc next)
 meaning_told i regs carry mxm pc next = by_test (is_flow i && not (next == after_bytes pc 4))
@@ -194,8 +189,7 @@ idle = All-nil IsCalled
 
 service_told : (service : Service) (vector pc : ℕ) → TurnTold (turn_of_service service vector pc)
 service_told (Out byte) vector pc = idle
-service_told End vector pc = idle
-service_told Unserved vector pc = idle
+service_told _ vector pc = idle
 
 carried_told : (m : Meaning) (regs : List ℕ) (pc : ℕ) → MeansTold m → TurnTold (carried_out m regs pc)
 carried_told (raises vector) regs pc told = idle

@@ -1,15 +1,14 @@
 -- What holds of every input and of every word.
-use Rattle.std.specs.Prelude.{◌≡◌, ◌↔◌, ◌⊎◌, ◌<◌, ◌%◌, ◌^◌, ◌++◌, ℕ, Bool, All, List, [], ◌∷◌, None, Ok, flat_map, slice_index, true}
+use Rattle.std.specs.Prelude.{◌≡◌, ◌↔◌, ◌⊎◌, ◌<◌, ◌%◌, ◌^◌, ◌++◌, ℕ, All, List, [], ◌∷◌, None, Ok, flat_map, slice_index, true}
 use Rattle.m88_base.specs.RegisterSet.{registers_in}
 use Rattle.m88_base.specs.declared.reg.Reg.{Reg}
 use Rattle.m88_base.specs.declared.triple.Triple.{Triple}
 use Rattle.m88_event.specs.Run.{moment_after}
-use Rattle.m88_event.specs.Timeline.{Moment, record_at}
-use Rattle.m88_event.specs.declared.letter.Letter.{Letter}
+use Rattle.m88_event.specs.Timeline.{Moment, Run, record_at}
 use Rattle.m88_event.specs.declared.record.Record.{Record}
 use Rattle.m88_isa.specs.Bus.{in_words}
 use Rattle.m88_isa.specs.History.{bus_at, pending_at}
-use Rattle.m88_isa.specs.Machine.{IsProgram, Program, state}
+use Rattle.m88_isa.specs.Machine.{IsProgram, state}
 use Rattle.m88_isa.specs.Memory.{Touch, access_of, touches_of}
 use Rattle.m88_isa.specs.Triples.{dmt_of}
 use Rattle.m88_isa.specs.declared.instr.MemOp.{MemOp}
@@ -80,34 +79,30 @@ shown_fault r words = record_lines r ++ flat_map word_line words
 
 -- the record that a data fault would leave at a moment, with the words of that moment where transactions are pending, is
 -- accepted, and what is written is what the service makes of it over all of data memory
-abbrev pub IsServedAt : Program → (ℕ → Bool) → ℕ → Moment → Type 0
-IsServedAt p named limit m =
-    (words : List (ℕ × ℕ)) → IsRecordOfWords (record_at p named limit m)
-    → AreWordsAt (pending_at p m.retired m.done) (bus_at p m.retired m.done) words
-    → IsServed (shown_fault (record_at p named limit m) words)
-    (served_text (serving_with (record_at p named limit m) (bus_at p m.retired m.done)))
+abbrev pub IsServedAt : Run → Moment → Type 0
+IsServedAt r m =
+    (words : List (ℕ × ℕ)) → IsRecordOfWords (record_at r m)
+    → AreWordsAt (pending_at r.program m.retired m.done) (bus_at r.program m.retired m.done) words
+    → IsServed (shown_fault (record_at r m) words)
+    (served_text (serving_with (record_at r m) (bus_at r.program m.retired m.done)))
 
 -- so it is at each moment of a run
 abbrev pub EachFaultIsServed : Type 0
-EachFaultIsServed =
-    (p : Program) (named : ℕ → Bool) (limit : ℕ) (schedule : List Letter) (k : ℕ)
-    → IsServedAt p named limit (moment_after p named limit schedule k)
+EachFaultIsServed = (r : Run) (k : ℕ) → IsServedAt r (moment_after r k)
 
 -- what the service makes of the record that a data fault would leave at a moment, and of memory as it is then
-abbrev pub service_at : Program → (ℕ → Bool) → ℕ → Moment → Serving
-service_at p named limit m = after_service (serving_with (record_at p named limit m) (bus_at p m.retired m.done))
+abbrev pub service_at : Run → Moment → Serving
+service_at r m = after_service (serving_with (record_at r m) (bus_at r.program m.retired m.done))
 
 -- behind it data memory is that of the history, and so is each register that was waited for
-pub record CatchesUpAt (p : Program) (named : ℕ → Bool) (limit : ℕ) (m : Moment) : Type 0 where
-  pub memory : (service_at p named limit m).bus ≡ in_words (state p m.retired).memory
-  pub registers : (r : ℕ) → registers_in (record_at p named limit m).ssbr r ≡ true
-      → slice_index (service_at p named limit m).numbers r ≡ slice_index (state p m.retired).regs r
+pub record CatchesUpAt (r : Run) (m : Moment) : Type 0 where
+  pub memory : (service_at r m).bus ≡ in_words (state r.program m.retired).memory
+  pub registers : (n : ℕ) → registers_in (record_at r m).ssbr n ≡ true
+      → slice_index (service_at r m).numbers n ≡ slice_index (state r.program m.retired).regs n
 
 -- so it is at each moment of a run
 abbrev pub EachServiceCatchesUp : Type 0
-EachServiceCatchesUp =
-    (p : Program) → IsProgram p → (named : ℕ → Bool) (limit : ℕ) (schedule : List Letter) (k : ℕ)
-    → CatchesUpAt p named limit (moment_after p named limit schedule k)
+EachServiceCatchesUp = (r : Run) (k : ℕ) → IsProgram r.program → CatchesUpAt r (moment_after r k)
 
 -- what holds of all of them
 pub record ServingLaws : Type 0 where
