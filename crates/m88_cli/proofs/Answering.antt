@@ -1,6 +1,6 @@
 -- What the program answers, by its status.
 use Rattle.std.proofs.Common.{◌≡◌, ◌≢◌, ◌<◌, ◌≤◌, ◌+◌, ◌⊎◌, ℕ, List, [], Option, Some, None, Bool, true, false, IfSome, ap, arith, inl, inr, length, length-append, refl, subst, sym, ◌∙◌}
-use Rattle.std.specs.Prelude.{MatchBool, MatchOption, is_none}
+use Rattle.std.specs.Prelude.{MatchBool, MatchOption, if◌then◌else◌, is_none}
 use Rattle.std.specs.Io.KnownBytes.{Consumes}
 use Rattle.m88_base.specs.Filter.{IsInputLeft}
 use Rattle.m88_base.specs.Outside.{TakesExactly}

@@ -1,6 +1,6 @@
 -- What a reply is to the input that a source gave a command.
-use Rattle.std.proofs.Common.{◌≡◌, ◌≢◌, ◌<◌, ◌⊎◌, ℕ, List, [], Option, Some, None, Bool, true, IfSome, ap, arith, length, refl, subst, sym, ◌∙◌}
-use Rattle.std.specs.Prelude.{MatchBool, MatchOption, is_none}
+use Rattle.std.proofs.Common.{◌≡◌, ◌≢◌, ◌<◌, ◌⊎◌, ℕ, List, [], Option, Some, None, Bool, true, false, IfSome, ap, arith, length, refl, subst, sym, ◌∙◌}
+use Rattle.std.specs.Prelude.{MatchBool, MatchOption, if◌then◌else◌, is_none}
 use Rattle.m88_base.proofs.Laws.{AreVerdicts}
 use Rattle.m88_base.specs.Filter.{TellsRefused}
 use Rattle.m88_base.specs.Outside.{GivesAll}

@@ -14,7 +14,7 @@ use Rattle.m88_base.specs.Parted.{IsParted}
 use Rattle.m88_trace.proofs.Laws.{run_trace_lines}
 use Rattle.m88_asm.specs.Sources.{IsProgramSource}
 use Rattle.m88_commands.specs.Bridge.{TracedIsChecked, with_trace}
-use Rattle.m88_session.specs.Settings.{Settings}
+use Rattle.m88_session.specs.Settings.{Settings, run_by}
 use Rattle.m88_commands.specs.TracedSources.{HasTrace, trace_separator}
 use Rattle.m88_commands.specs.Answer.Traces.{IsTraceText}
 
@@ -33,7 +33,7 @@ parted source text accepted = ended_parted trace_separator source text accepted.
 
 traced : (source text : List ℕ) (s : Settings) → IsProgramSource source → IsTraceText source s text → (n : ℕ) × HasTrace (with_trace source text) n
 traced source text s accepted traces =
-    let lines = run_trace_lines traces.program s.absent s.limit s.schedule text traces.holds.0 in
+    let lines = run_trace_lines (run_by traces.program s) text traces.holds.0 in
     let of_source = traces.of_source in (
       lines.0,
       record {

@@ -26,7 +26,7 @@ use Rattle.m88_commands.specs.Command.{Command, run, exec, asm, link, build, dis
 use Rattle.m88_commands.specs.Answer.Emulation.{told_of_emulated}
 use Rattle.m88_commands.specs.Answer.Paging.{told_of_paged}
 use Rattle.m88_commands.specs.Answer.Runs.{IsLoadedProgram, IsReport, workload_settings}
-use Rattle.m88_session.specs.Settings.{Settings}
+use Rattle.m88_session.specs.Settings.{Settings, run_by}
 use Rattle.m88_commands.specs.Answer.Sharing.{group_of, told_of_shared}
 use Rattle.m88_commands.specs.Answer.Workload.{summary_of, workload_source}
 use Rattle.m88_session.proofs.Laws.{one_session_text}
@@ -41,8 +41,8 @@ one_report : (told_of : Outcome → List ℕ) (IsSuch : Program → Type 0) (s :
 one_report told_of IsSuch s a b one x y =
     let same = one x.program y.program x.is_such y.is_such (x.mode ∙ sym y.mode) in
     x.is_text
-    ∙ ap told_of (one_outcome y.program s.absent s.limit s.schedule x.outcome y.outcome
-    (subst (λ q. IsOutcome q s.absent s.limit s.schedule x.outcome) same x.is_outcome) y.is_outcome)
+    ∙ ap told_of (one_outcome (run_by y.program s) x.outcome y.outcome
+    (subst (λ q. IsOutcome (run_by q s) x.outcome) same x.is_outcome) y.is_outcome)
     ∙ sym y.is_text
 
 pub one_text : (command : Command) (input a b : List ℕ) → IsOutput command input a → IsOutput command input b → a ≡ b
@@ -72,7 +72,7 @@ one_text (share limit absent schedule) input a b x y =
     ∙ sym y.is_text
 one_text (emu s) input a b x y =
     let own = holds_of_same input _ _ x y in
-    own.2 ∙ ap told_of_emulated (one_extended_outcome y.program s.absent s.limit s.schedule own.0 y.holds.0 own.1 y.holds.1) ∙ sym y.holds.2
+    own.2 ∙ ap told_of_emulated (one_extended_outcome (run_by y.program s) own.0 y.holds.0 own.1 y.holds.1) ∙ sym y.holds.2
 one_text (page frames s) input a b x y =
     x.is_text ∙ ap (told_of_paged frames) (one_paged input frames s x.paged y.paged x.comes y.comes) ∙ sym y.is_text
 one_text (trace s) input a b x y = let own = holds_of_same input _ _ x y in own.1 ∙ sym y.holds.1

@@ -5,9 +5,8 @@ use Rattle.m88_base.specs.Image.{IsImage, ProgramImage}
 use Rattle.m88_base.specs.declared.failing.NoMemory.{NoMemory}
 use Rattle.m88_isa.specs.Machine.{Program}
 use Rattle.m88_event.specs.Letters.{letter_at}
-use Rattle.m88_event.specs.Run.{IsOutcome, IsRunning, moment_after, outcome_at}
-use Rattle.m88_event.specs.Timeline.{Moment, opening_moment}
-use Rattle.m88_event.specs.declared.letter.Letter.{Letter}
+use Rattle.m88_event.specs.Run.{IsOutcome, moment_after, outcome_at}
+use Rattle.m88_event.specs.Timeline.{Run, opening_moment}
 use Rattle.m88_event.specs.declared.outcome.Outcome.{Outcome}
 use Rattle.m88_board.proofs.Laws.{along_events, saw_none}
 use Rattle.m88_board.specs.Glances.{Saw, glances_along}
@@ -24,32 +23,28 @@ use Rattle.m88_commands.proofs.Programs.{records_held}
 use Rattle.m88_commands.specs.Answer.{Accepts, IsAnswerToAccepted, IsOutput}
 use Rattle.m88_commands.specs.Command.{Command, exec, run}
 use Rattle.m88_commands.specs.Inside.Reply.{AnswersShown, WatchesFront}
-use Rattle.m88_session.specs.Running.{GoesAlong, OfImage}
+use Rattle.m88_session.specs.Running.{OfImage}
 use Rattle.m88_commands.specs.Inside.Running.{Reports, RunsImage, TellsOutcome}
 use Rattle.m88_commands.specs.Answer.Runs.{IsLoadedProgram, IsReport}
-use Rattle.m88_session.specs.Settings.{Settings}
+use Rattle.m88_session.specs.Settings.{Settings, run_by}
 use Rattle.m88_commands.specs.Inside.Fronts.{SawFront, SawRun}
 use Rattle.m88_commands.specs.Watching.{FrontOfAccepted, Shown, ShowsGlances, ShowsRun}
 use Rattle.m88_base.specs.declared.reply.Reply.{Reply}
 
 -- an outcome has as many events as the run
-pub outcome_counts : (p : Program) (named : ℕ → Bool) (limit : ℕ) (schedule : List Letter) (o : Outcome) (is : IsOutcome p named limit schedule o)
-    → o.events ≡ is.events
+pub outcome_counts : (r : Run) (o : Outcome) (is : IsOutcome r o) → o.events ≡ is.events
 unfolding outcome_at
-outcome_counts p named limit schedule o is =
-    let made : (moment_after p named limit schedule is.events).events ≡ 0 + is.events =
-    along_events p named limit (letter_at schedule) opening_moment is.events in
+outcome_counts r o is =
+    let made : (moment_after r is.events).events ≡ 0 + is.events = along_events r (letter_at r.schedule) opening_moment is.events in
     ap (λ (x : Outcome). x.events) is.value ∙ omega (arith, made)
 
 -- what was seen of as many events as the outcome has was seen of the run
 pub saw_run : (p : Program) (s : Settings) (before after : Option (List Glance)) (o : Outcome) → p.mxm ≡ s.mxm
-    → IsOutcome p s.absent s.limit s.schedule o → Saw before after (glances_along p (moment_after p s.absent s.limit s.schedule) o.events)
-    → SawRun p s before after
+    → IsOutcome (run_by p s) o → Saw before after (glances_along p (moment_after (run_by p s)) o.events) → SawRun p s before after
 saw_run p s before after o mode is saw = (
-  glances_along p (moment_after p s.absent s.limit s.schedule) is.events,
+  glances_along p (moment_after (run_by p s)) is.events,
   record { mode = mode; events = is.events; is_run = is.run; glances_are = refl },
-  subst (λ k. Saw before after (glances_along p (moment_after p s.absent s.limit s.schedule) k))
-      (outcome_counts p s.absent s.limit s.schedule o is) saw,
+  subst (λ k. Saw before after (glances_along p (moment_after (run_by p s)) k)) (outcome_counts (run_by p s) o is) saw,
 )
 
 -- and of its front
@@ -68,7 +63,7 @@ no_front p s seen mode = record {
   mode = mode;
   events = 0;
   is_running = λ k below. absurd (omega arith);
-  saw = subst (λ glances. Saw seen seen glances) (sym (no_glance p (moment_after p s.absent s.limit s.schedule))) (saw_none seen);
+  saw = subst (λ glances. Saw seen seen glances) (sym (no_glance p (moment_after (run_by p s)))) (saw_none seen);
 }
 
 -- the text is what is told of a run of the program of an image
@@ -119,7 +114,7 @@ module _ (told_of : Outcome → List ℕ) (IsSuch : Program → Type 0) (command
       let on = run_goes_on h.program s before after (program_of_image image h.program r.is_image h.of_image) seen in
       record {
         accepted = r.accepted;
-        glances = glances_along h.program (moment_after h.program s.absent s.limit s.schedule) seen.events;
+        glances = glances_along h.program (moment_after (run_by h.program s)) seen.events;
         others = on.0;
         shows = r.shows h.program _ h.is_such on.1;
         saw = seen.saw;
@@ -162,19 +157,6 @@ runs_records text s image written is = record {
   shows = λ p glances such run. (p, such, run);
   is_image = is;
 }
-
--- the same of a limit that is the board's
-pub front_by : (p : Program) (own : ℕ) (s : Settings) (before after : Option (List Glance)) → own ≡ s.limit → p.mxm ≡ s.mxm
-    → (events : ℕ) × IsRunning p s.absent own s.schedule events × Saw before after (glances_along p (moment_after p s.absent own s.schedule) events)
-    → SawFront p s before after
-front_by p own s before after e mode (events, running, saw) =
-    subst (λ n. SawFront p (record s { limit = n }) before after) e (record { mode = mode; events = events; is_running = running; saw = saw })
-
-pub run_by : (p : Program) (own : ℕ) (s : Settings) (before after : Option (List Glance)) (o : Outcome) → own ≡ s.limit → p.mxm ≡ s.mxm
-    → IsOutcome p s.absent own s.schedule o → Saw before after (glances_along p (moment_after p s.absent own s.schedule) o.events)
-    → SawRun p s before after
-run_by p own s before after o e mode is saw =
-    subst (λ n. SawRun p (record s { limit = n }) before after) e (saw_run p (record s { limit = own }) before after o mode is saw)
 
 -- where there is no reply
 pub answers_none : {W E : Type 0} {seen : W → Option (List Glance)} {old new : W} {command : Command} {input : List ℕ} (r : Result Reply E)

@@ -1,7 +1,7 @@
 -- The commands: what words spell each of them, the kind of its input, and which of them show boards.
 use Rattle.std.specs.Prelude.{ℕ, Bool, true, false, ◌≡◌, ◌<◌, ◌≤◌, ◌^◌, List, [], ◌∷◌, codes}
 use Rattle.m88_tasks.specs.declared.letter.ShareLetter.{ShareLetter}
-use Rattle.m88_commands.specs.Limits.{most_limit, most_statements, session_limit}
+use Rattle.m88_commands.specs.Limits.{most_statements, session_limit}
 use Rattle.m88_session.specs.Numbers.{IsShortNumber}
 use Rattle.m88_commands.specs.Words.{SayPaged, SayPlain, SaySession, SaySettings, SayShared}
 use Rattle.m88_session.specs.Settings.{AreBounded, Settings, settings_of}

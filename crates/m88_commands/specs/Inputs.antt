@@ -1,5 +1,5 @@
 -- The input of a command, as its source has and gives it. Of a source that doesn't tell its bytes nothing is said.
-use Rattle.std.specs.Prelude.{ℕ, List, [], Option, Some}
+use Rattle.std.specs.Prelude.{ℕ, List, [], Option, Some, if◌then◌else◌}
 use Rattle.m88_base.specs.Outside.{GivesAll}
 use Rattle.m88_base.specs.Shown.{IsShownOf}
 use Rattle.m88_base.specs.declared.refused.Refused.{Refused}

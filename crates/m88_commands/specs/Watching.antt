@@ -2,7 +2,7 @@
 -- else nothing. Some commands run boards that no watch is shown.
 use Rattle.std.specs.Prelude.{ℕ, ◌≡◌, ◌++◌, ◌⊎◌, List, [], Option}
 use Rattle.m88_isa.specs.Machine.{Program}
-use Rattle.m88_event.specs.Run.{IsRun, moment_after}
+use Rattle.m88_event.specs.Run.{HasEvents, moment_after}
 use Rattle.m88_board.specs.Glances.{Saw, glances_along}
 use Rattle.m88_board.specs.declared.glance.Glance.{Glance}
 use Rattle.m88_commands.specs.Answer.{Accepts}
@@ -10,15 +10,15 @@ use Rattle.m88_commands.specs.Command.{Command, run, exec, mon, soak}
 use Rattle.m88_session.specs.MonitorText.{IsInputSession}
 use Rattle.m88_commands.specs.Answer.Runs.{IsLoadedProgram, workload_settings}
 use Rattle.m88_asm.specs.Sources.{IsSourceProgram}
-use Rattle.m88_session.specs.Settings.{Settings}
+use Rattle.m88_session.specs.Settings.{Settings, run_by}
 use Rattle.m88_commands.specs.Answer.Workload.{workload_source}
 
 -- the glances at each moment of a whole run of a program, in the mode of the settings
 pub record ShowsRun (p : Program) (s : Settings) (glances : List Glance) : Type 0 where
   pub mode : p.mxm ≡ s.mxm
   pub events : ℕ
-  pub is_run : IsRun p s.absent s.limit s.schedule events
-  pub glances_are : glances ≡ glances_along p (moment_after p s.absent s.limit s.schedule) events
+  pub is_run : HasEvents (run_by p s) events
+  pub glances_are : glances ≡ glances_along p (moment_after (run_by p s)) events
 
 -- what a command shows that carries out an input
 abbrev pub ShowsGlances : Command → List ℕ → List Glance → Type 0

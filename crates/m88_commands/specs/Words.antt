@@ -1,12 +1,11 @@
 -- The words that say what a run is asked for besides its program.
 use Rattle.std.specs.Prelude.{ℕ, Bool, true, false, ◌≡◌, ◌≤◌, List, [], ◌∷◌, codes}
 use Rattle.m88_event.specs.Letters.{IsSchedule}
-use Rattle.m88_event.specs.declared.letter.Letter.{Letter}
 use Rattle.m88_pager.specs.Paged.{most_frames}
 use Rattle.m88_tasks.specs.Letters.{IsShareSchedule}
 use Rattle.m88_tasks.specs.declared.letter.ShareLetter.{ShareLetter}
-use Rattle.m88_commands.specs.Limits.{most_limit, session_limit}
 use Rattle.m88_session.specs.Numbers.{IsShortNumber}
+use Rattle.m88_session.specs.Settings.{Settings}
 use Rattle.m88_commands.specs.Pages.{IsAbsent}
 
 -- a text writes a limit in one to seven decimal digits, which may begin with zeros

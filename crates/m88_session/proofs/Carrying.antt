@@ -1,11 +1,10 @@
 -- Commands, one after the other.
-use Rattle.std.specs.Prelude.{ℕ, Bool, true, List, [], ◌∷◌, ◌++◌, Option, ◌≡◌, ◌<◌, ◌≤◌, ◌+◌, cond, OnOk, Result, Ok, Err, count_by, drop, length}
+use Rattle.std.specs.Prelude.{ℕ, true, List, [], ◌∷◌, ◌++◌, Option, ◌≡◌, ◌<◌, ◌≤◌, ◌+◌, cond, OnOk, Result, Ok, Err, count_by, drop, length}
 use Rattle.std.proofs.Common.{add-one, append_assoc, arith, append-nil, refl, sym, ap, ap₂, ◌∙◌, subst, inl, inr, drop-cons, get_or}
 use Rattle.std.proofs.lemmas.List.{drop_all}
 use Rattle.std.proofs.lemmas.List.Sums.{sum_by-append}
 use Rattle.m88_event.proofs.Laws.{one_first}
-use Rattle.m88_event.specs.Timeline.{Moment}
-use Rattle.m88_isa.specs.Machine.{Program}
+use Rattle.m88_event.specs.Timeline.{Moment, Run}
 use Rattle.m88_board.proofs.Laws.{saw_none, saw_then}
 use Rattle.m88_board.specs.Glances.{Saw}
 use Rattle.m88_board.specs.Moves.{IsAt}
@@ -14,22 +13,22 @@ use Rattle.m88_session.proofs.MonitorWalks.{each_none}
 use Rattle.m88_session.proofs.Unmade.{no_glance}
 use Rattle.m88_session.specs.MonitorLines.{counts_text}
 use Rattle.m88_session.specs.Script.{is_break, most_breaks}
-use Rattle.m88_session.specs.Session.{Course, IsSession, Session, after_command, glances_of, moments_of, stops_command, text_of_command}
+use Rattle.m88_session.specs.Session.{IsSession, Session, after_command, glances_of, moments_of, stops_command, text_of_command}
 use Rattle.m88_session.specs.Inside.Fronts.{IsSessionFront}
 use Rattle.m88_session.specs.Inside.SessionKept.{Broke, Carried, Carries, StandsAt, Went}
 use Rattle.m88_session.specs.declared.monitor.Monitor.{Monitor}
 use Rattle.m88_session.specs.declared.script.MonitorCommand.{MonitorCommand}
 
 -- a command that makes no event
-saw_nothing : (c : Course) (s : Session) (command : MonitorCommand) (seen : Option (List Glance)) → Saw seen seen (glances_of c s command 0)
+saw_nothing : (c : Run) (s : Session) (command : MonitorCommand) (seen : Option (List Glance)) → Saw seen seen (glances_of c s command 0)
 saw_nothing c s command seen =
     subst (λ glances. Saw seen seen glances) (sym (no_glance c.program (moments_of c s command))) (saw_none seen)
 
 -- what is answered to such a command
 pub carries_still : {T E : Type 0} (command : MonitorCommand) (seen : Option (List Glance)) (old new : Monitor) (text more : List ℕ)
     (r : Result T E) → length new.breakpoints.items ≡ length old.breakpoints.items + count_by is_break (command ∷ []) →
-    ((c : Course) (s : Session) → stops_command c s command 0 ≡ true) →
-    OnOk r ((c : Course) (s : Session) → StandsAt c s old
+    ((c : Run) (s : Session) → stops_command c s command 0 ≡ true) →
+    OnOk r ((c : Run) (s : Session) → StandsAt c s old
     → StandsAt c (after_command c s command 0) new × (more ≡ text ++ text_of_command c s command 0)) →
     Carries command seen seen old new text more r
 carries_still command seen old new text more (Ok x) set none shown = record {
@@ -55,9 +54,9 @@ carries_still command seen old new text more (Err e) set none shown = record {
 pub carries_counts : {T E : Type 0} (command : MonitorCommand) (before after : Option (List Glance)) (old new : Monitor)
     (text more : List ℕ) (r : Result T E) →
     length new.breakpoints.items ≡ length old.breakpoints.items + count_by is_break (command ∷ []) →
-    ((c : Course) (s : Session) (k : ℕ) → text_of_command c s command k ≡ counts_text c.program (after_command c s command k).moment) →
-    ((c : Course) (s : Session) → StandsAt c s old → Went c s command before after new) →
-    OnOk r ((p : Program) (named : ℕ → Bool) (m : Moment) → IsAt p named m new.walk.board.now → more ≡ text ++ counts_text p m) →
+    ((c : Run) (s : Session) (k : ℕ) → text_of_command c s command k ≡ counts_text c.program (after_command c s command k).moment) →
+    ((c : Run) (s : Session) → StandsAt c s old → Went c s command before after new) →
+    OnOk r ((run : Run) (m : Moment) → IsAt run m new.walk.board.now → more ≡ text ++ counts_text run.program m) →
     Carries command before after old new text more r
 carries_counts command before after old new text more (Ok x) set counts goes told = record {
   set = set;
@@ -65,7 +64,7 @@ carries_counts command before after old new text more (Ok x) set counts goes tol
       let went = goes c s stands in
       record {
         went = went;
-        text = told c.program c.named (after_command c s command went.events).moment went.stands.at
+        text = told c (after_command c s command went.events).moment went.stands.at
             ∙ ap (λ line. text ++ line) (sym (counts c s went.events));
       };
   err = tt;
@@ -79,17 +78,17 @@ carries_counts command before after old new text more (Err e) set counts goes to
 -- and to one during which memory ran out
 pub carries_none : {T E : Type 0} (command : MonitorCommand) (before after : Option (List Glance)) (old new : Monitor)
     (text more : List ℕ) (r : Result T E) → OnOk r ⊥ →
-    ((c : Course) (s : Session) → StandsAt c s old → Broke c s command before after) → Carries command before after old new text more r
+    ((c : Run) (s : Session) → StandsAt c s old → Broke c s command before after) → Carries command before after old new text more r
 carries_none command before after old new text more (Ok x) none broke = absurd none
 carries_none command before after old new text more (Err e) none broke = record { set = tt; ok = tt; err = broke }
 
 -- so commands write one text, and show the same glances
-abbrev pub HasOneSession : Course → List MonitorCommand → Session → Type 0
+abbrev pub HasOneSession : Run → List MonitorCommand → Session → Type 0
 HasOneSession c commands s =
     (text other : List ℕ) (glances others : List Glance) → IsSession c commands s text glances
     → IsSession c commands s other others → (text ≡ other) × (glances ≡ others)
 
-pub one_session : (c : Course) (commands : List MonitorCommand) (s : Session) → HasOneSession c commands s
+pub one_session : (c : Run) (commands : List MonitorCommand) (s : Session) → HasOneSession c commands s
 one_session c [] s text other glances others x y = (x.0 ∙ sym y.0, x.1 ∙ sym y.1)
 one_session c (command ∷ commands) s text other glances others x y =
     let same = one_first (stops_command c s command) x.events y.events x.makes y.makes in
@@ -100,7 +99,7 @@ one_session c (command ∷ commands) s text other glances others x y =
     )
 
 -- some commands are carried out, and where the others stand then
-pub record IsCarrying (c : Course) (commands : List MonitorCommand) (start : Session) (i : ℕ)
+pub record IsCarrying (c : Run) (commands : List MonitorCommand) (start : Session) (i : ℕ)
     (before after : Option (List Glance)) (told : List ℕ) (monitor : Monitor) : Type 0 where
   pub session : Session
   pub glances : List Glance
@@ -111,7 +110,7 @@ pub record IsCarrying (c : Course) (commands : List MonitorCommand) (start : Ses
   pub front : (others : List Glance) → IsSessionFront c (drop i commands) session others
       → IsSessionFront c commands start (glances ++ others)
 
-pub carry_start : (c : Course) (commands : List MonitorCommand) (start : Session) (seen : Option (List Glance))
+pub carry_start : (c : Run) (commands : List MonitorCommand) (start : Session) (seen : Option (List Glance))
     (monitor : Monitor) → StandsAt c start monitor → IsCarrying c commands start 0 seen seen [] monitor
 carry_start c commands start seen monitor stands = record {
   session = start;
@@ -128,7 +127,7 @@ here_is : (commands : List MonitorCommand) (i : ℕ) (d : MonitorCommand) → i 
 here_is commands i d h = drop-cons commands i d h ∙ ap (λ n. get_or commands i d ∷ drop n commands) (sym (add-one i))
 
 -- one more
-pub carry_next : (c : Course) (commands : List MonitorCommand) (d : MonitorCommand) (start : Session) (i : ℕ)
+pub carry_next : (c : Run) (commands : List MonitorCommand) (d : MonitorCommand) (start : Session) (i : ℕ)
     (before here after : Option (List Glance)) (old new : List ℕ) (monitor next : Monitor) → i < length commands →
     (carrying : IsCarrying c commands start i before here old monitor) →
     Carried c carrying.session (get_or commands i d) here after old new next →
@@ -179,7 +178,7 @@ pub room_next : (commands : List MonitorCommand) (d : MonitorCommand) (i set mor
 room_next commands d i set more below room is = omega (arith, room, is, breaks_here commands d i below)
 
 -- to the last
-pub carry_end : (c : Course) (commands : List MonitorCommand) (start : Session) (i : ℕ)
+pub carry_end : (c : Run) (commands : List MonitorCommand) (start : Session) (i : ℕ)
     (before after : Option (List Glance)) (told : List ℕ) (monitor : Monitor) → length commands ≤ i →
     IsCarrying c commands start i before after told monitor →
     (glances : List Glance) × IsSession c commands start told glances × Saw before after glances
@@ -193,7 +192,7 @@ carry_end c commands start i before after told monitor past carrying =
     )
 
 -- or to where memory ran out
-pub carry_broke : (c : Course) (commands : List MonitorCommand) (d : MonitorCommand) (start : Session) (i : ℕ)
+pub carry_broke : (c : Run) (commands : List MonitorCommand) (d : MonitorCommand) (start : Session) (i : ℕ)
     (before here after : Option (List Glance)) (told : List ℕ) (monitor : Monitor) → i < length commands →
     (carrying : IsCarrying c commands start i before here told monitor) →
     Broke c carrying.session (get_or commands i d) here after →

@@ -1,5 +1,5 @@
 -- Every walk and every draining comes to an end.
-use Rattle.std.specs.Prelude.{ℕ, zero, suc, Bool, true, false, not, List, [], ◌∷◌, ◌++◌, Option, ◌≡◌, ◌⊎◌, ◌<◌, ◌≤◌, ◌+◌, ◌==◌, nat_lt}
+use Rattle.std.specs.Prelude.{ℕ, zero, suc, Bool, true, false, not, List, [], ◌∷◌, ◌++◌, ◌≡◌, ◌⊎◌, ◌<◌, ◌≤◌, ◌+◌, ◌==◌, nat_lt}
 use Rattle.std.proofs.Common.{append_assoc, append-nil, arith, inl, inr, refl, sym, ap, ap₂, ◌∙◌, subst}
 use Rattle.std.proofs.lemmas.Bool.{eqb-false, eqb-true, ltb-false, ltb-true}
 use Rattle.m88_isa.proofs.Laws.{by_test}
@@ -9,8 +9,8 @@ use Rattle.m88_event.proofs.Laws.{answered_lessens, drained_seen, lessens, moves
 use Rattle.m88_event.specs.Bound.{weight}
 use Rattle.m88_event.specs.Letters.{letter_at}
 use Rattle.m88_event.specs.Local.{Local, local_at, move}
-use Rattle.m88_event.specs.Run.{IsFirst, IsRun, NotBefore, answered_after, moment_after, moment_along}
-use Rattle.m88_event.specs.Timeline.{DoneWereMade, Moment, after_letter, is_drained, is_over, opening_moment}
+use Rattle.m88_event.specs.Run.{HasEvents, IsFirst, NotBefore, answered_after, moment_after, moment_along}
+use Rattle.m88_event.specs.Timeline.{DoneWereMade, Moment, Run, after_letter, is_drained, is_over, opening_moment}
 use Rattle.m88_event.specs.declared.letter.Letter.{Letter}
 use Rattle.m88_event.specs.declared.letter.Letter.TheVariants.{Answer}
 use Rattle.m88_board.specs.Glances.{glance_at, glances_along}
@@ -52,65 +52,64 @@ no_later f k n before here = by_test (nat_lt n k)
     (λ more. ltb-false n k more)
 
 -- a moment of a board: what was done was made, and no more is retired than the limit
-abbrev pub IsSound : Program → ℕ → Moment → Type 0
-IsSound p limit m = DoneWereMade p m × (m.retired ≤ limit)
+abbrev pub IsSound : Run → Moment → Type 0
+IsSound r m = DoneWereMade r.program m × (m.retired ≤ r.limit)
 
-seen_retired : (p : Program) (named : ℕ → Bool) (m : Moment) → (local_at p named m).retired ≡ m.retired
+seen_retired : (r : Run) (m : Moment) → (local_at r m).retired ≡ m.retired
 unfolding local_at
-seen_retired p named m = refl
+seen_retired r m = refl
 
-module _ (p : Program) (named : ℕ → Bool) (limit : ℕ) (is : IsProgram p) where
-  sound_next : (letter : Letter) (m : Moment) → IsSound p limit m → IsSound p limit (after_letter p named limit letter m)
+module _ (r : Run) (is : IsProgram r.program) where
+  sound_next : (letter : Letter) (m : Moment) → IsSound r m → IsSound r (after_letter r letter m)
   sound_next letter m sound =
-      let moved = moves_as_seen p named limit letter m is sound.0 in
-      let within = stays_in_limit p limit letter (local_at p named m) is (subst (λ n. n ≤ limit) (sym (seen_retired p named m)) sound.1) in (
-        stays_within p named limit letter m sound.0,
-        subst (λ n. n ≤ limit) (seen_retired p named (after_letter p named limit letter m))
-            (subst (λ (l : Local). l.retired ≤ limit) moved within),
+      let moved = moves_as_seen r letter m is sound.0 in
+      let within = stays_in_limit r.program r.limit letter (local_at r m) is
+      (subst (λ n. n ≤ r.limit) (sym (seen_retired r m)) sound.1) in (
+        stays_within r letter m sound.0,
+        subst (λ n. n ≤ r.limit) (seen_retired r (after_letter r letter m)) (subst (λ (l : Local). l.retired ≤ r.limit) moved within),
       )
 
-  pub sound_along : (letters : ℕ → Letter) (m : Moment) (k : ℕ) → IsSound p limit m → IsSound p limit (moment_along p named limit letters m k)
+  pub sound_along : (letters : ℕ → Letter) (m : Moment) (k : ℕ) → IsSound r m → IsSound r (moment_along r letters m k)
   unfolding moment_along
   sound_along letters m zero sound = sound
-  sound_along letters m (suc k) sound = sound_next (letters k) (moment_along p named limit letters m k) (sound_along letters m k sound)
+  sound_along letters m (suc k) sound = sound_next (letters k) (moment_along r letters m k) (sound_along letters m k sound)
 
   -- what is seen after one more
-  next_seen : (letters : ℕ → Letter) (m : Moment) (k : ℕ) → IsSound p limit m
-      → move p limit (letters k) (local_at p named (moment_along p named limit letters m k))
-      ≡ local_at p named (moment_along p named limit letters m (suc k))
+  next_seen : (letters : ℕ → Letter) (m : Moment) (k : ℕ) → IsSound r m
+      → move r.program r.limit (letters k) (local_at r (moment_along r letters m k)) ≡ local_at r (moment_along r letters m (suc k))
   unfolding moment_along
   next_seen letters m k sound =
-      let here = sound_along letters m k sound in moves_as_seen p named limit (letters k) (moment_along p named limit letters m k) is here.0
+      moves_as_seen r (letters k) (moment_along r letters m k) is (sound_along letters m k sound).0
 
-  module _ (schedule : List Letter) (taken : ℕ) (m : Moment) (sound : IsSound p limit m) where
+  module _ (taken : ℕ) (m : Moment) (sound : IsSound r m) where
     -- along the letters of a run each event lessens the weight
-    pub walk_ends : (letters : ℕ → Letter) → ((k : ℕ) → letters k ≡ letter_at schedule (taken + k))
-        → (n : ℕ) × (is_over p limit (moment_along p named limit letters m n) ≡ true)
+    pub walk_ends : (letters : ℕ → Letter) → ((k : ℕ) → letters k ≡ letter_at r.schedule (taken + k))
+        → (n : ℕ) × (is_over r (moment_along r letters m n) ≡ true)
     walk_ends letters are =
-        let at = moment_along p named limit letters m in
-        comes_to (λ k. is_over p limit (at k)) (λ k. weight schedule limit (taken + k) (local_at p named (at k))) (λ k goes.
+        let at = moment_along r letters m in
+        comes_to (λ k. is_over r (at k)) (λ k. weight r.schedule r.limit (taken + k) (local_at r (at k))) (λ k goes.
         let here = sound_along letters m k sound in
-        let less = lessens p limit schedule (taken + k) (local_at p named (at k)) is
-        (subst (λ n. n ≤ limit) (sym (seen_retired p named (at k))) here.1) (same_over p named limit (at k) here.0 ∙ goes) in
-        let next : move p limit (letter_at schedule (taken + k)) (local_at p named (at k)) ≡ local_at p named (at (suc k)) =
-        ap (λ letter. move p limit letter (local_at p named (at k))) (sym (are k)) ∙ next_seen letters m k sound in
+        let less = lessens r.program r.limit r.schedule (taken + k) (local_at r (at k)) is
+        (subst (λ n. n ≤ r.limit) (sym (seen_retired r (at k))) here.1) (same_over r (at k) here.0 ∙ goes) in
+        let next : move r.program r.limit (letter_at r.schedule (taken + k)) (local_at r (at k)) ≡ local_at r (at (suc k)) =
+        ap (λ letter. move r.program r.limit letter (local_at r (at k))) (sym (are k)) ∙ next_seen letters m k sound in
         let place : taken + k + 1 ≡ taken + suc k = omega arith in
-        let same = ap₂ (weight schedule limit) place next in
+        let same = ap₂ (weight r.schedule r.limit) place next in
         omega (arith, less, same))
 
     -- and so does each answer while something is pending
-    pub draining_ends : (n : ℕ) × (is_drained p (answered_after p named limit m n) ≡ true)
+    pub draining_ends : (n : ℕ) × (is_drained r.program (answered_after r m n) ≡ true)
     draining_ends =
-        let at = answered_after p named limit m in
-        comes_to (λ k. is_drained p (at k)) (λ k. weight schedule limit taken (local_at p named (at k))) (λ k goes.
-        by_test (is_pending (local_at p named (at k)).pending)
+        let at = answered_after r m in
+        comes_to (λ k. is_drained r.program (at k)) (λ k. weight r.schedule r.limit taken (local_at r (at k))) (λ k goes.
+        by_test (is_pending (local_at r (at k)).pending)
         (λ some.
-        let less = answered_lessens p limit schedule taken (local_at p named (at k)) some in
-        let same = ap (weight schedule limit taken) (next_seen (λ j. Answer) m k sound) in
+        let less = answered_lessens r.program r.limit r.schedule taken (local_at r (at k)) some in
+        let same = ap (weight r.schedule r.limit taken) (next_seen (λ j. Answer) m k sound) in
         omega (arith, less, same))
         (λ none.
-        let seen = drained_seen p named (at k) (sound_along (λ j. Answer) m k sound).0 in
-        let drained : is_drained p (at k) ≡ true = sym seen ∙ ap not none in absurd cc))
+        let seen = drained_seen r (at k) (sound_along (λ j. Answer) m k sound).0 in
+        let drained : is_drained r.program (at k) ≡ true = sym seen ∙ ap not none in absurd cc))
 
 -- the glances of more moments go on from those of fewer
 pub glances_go_on : (p : Program) (moments : ℕ → Moment) (k n : ℕ) → k ≤ n
@@ -127,11 +126,11 @@ glances_go_on p moments k (suc n) low = by_test (k == suc n)
     (before.0 ++ last, sym (append_assoc (glances_along p moments k) before.0 last) ∙ ap (λ glances. glances ++ last) before.1))
 
 -- every run has its events
-pub opens_sound : (p : Program) (limit : ℕ) → IsSound p limit opening_moment
-opens_sound p limit = (omega arith, omega arith)
+pub opens_sound : (r : Run) → IsSound r opening_moment
+opens_sound r = (omega arith, omega arith)
 
-pub has_run : (p : Program) (named : ℕ → Bool) (limit : ℕ) (schedule : List Letter) → IsProgram p → (n : ℕ) × IsRun p named limit schedule n
-has_run p named limit schedule is =
-    let over = walk_ends p named limit is schedule 0 opening_moment (opens_sound p limit) (letter_at schedule)
-    (λ k. let same : k ≡ 0 + k = omega arith in ap (letter_at schedule) same) in
-    first_of (λ k. is_over p limit (moment_after p named limit schedule k)) over.0 over.1
+pub has_run : (r : Run) → IsProgram r.program → (n : ℕ) × HasEvents r n
+has_run r is =
+    let over = walk_ends r is 0 opening_moment (opens_sound r) (letter_at r.schedule)
+    (λ k. let same : k ≡ 0 + k = omega arith in ap (letter_at r.schedule) same) in
+    first_of (λ k. is_over r (moment_after r k)) over.0 over.1

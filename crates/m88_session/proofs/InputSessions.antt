@@ -11,8 +11,8 @@ use Rattle.m88_asm.specs.Sources.{IsSourceProgram}
 use Rattle.m88_session.specs.Running.{OfImage}
 use Rattle.m88_session.specs.Inside.SessionKept.{ShowsFront, TellsSession}
 use Rattle.m88_session.specs.Script.{IsScript, ScriptParts}
-use Rattle.m88_session.specs.Session.{Course, IsSession, Session, course_of, moments_of, opening_session}
-use Rattle.m88_session.specs.Settings.{Settings}
+use Rattle.m88_session.specs.Session.{IsSession, Session, moments_of, opening_session}
+use Rattle.m88_session.specs.Settings.{Settings, run_by}
 use Rattle.m88_session.specs.declared.script.MonitorCommand.{MonitorCommand}
 use Rattle.m88_isa.proofs.Laws.{program_of_image}
 use Rattle.m88_session.proofs.Carrying.{one_session}
@@ -21,14 +21,15 @@ use Rattle.m88_session.proofs.SessionEnds.{session_goes_on}
 use Rattle.m88_asm.proofs.Laws.{Held, accepted_source, held_by, one_source_program}
 use Rattle.m88_session.proofs.Unmade.{no_glance}
 use Rattle.m88_session.proofs.Scripts.{one_script}
+use Rattle.m88_event.specs.Timeline.{Run}
 
 -- the session of another script and program is that of these
 moved : (s : Settings) (cs ds : List MonitorCommand) (p q : Program) (text : List ℕ) (glances : List Glance)
-    → cs ≡ ds → p ≡ q → IsSession (course_of p s) cs opening_session text glances
-    → IsSession (course_of q s) ds opening_session text glances
+    → cs ≡ ds → p ≡ q → IsSession (run_by p s) cs opening_session text glances
+    → IsSession (run_by q s) ds opening_session text glances
 moved s cs ds p q text glances e f h =
-    subst (λ r. IsSession (course_of r s) ds opening_session text glances) f
-    (subst (λ xs. IsSession (course_of p s) xs opening_session text glances) e h)
+    subst (λ r. IsSession (run_by r s) ds opening_session text glances) f
+    (subst (λ xs. IsSession (run_by p s) xs opening_session text glances) e h)
 
 pub one_session_text : (input : List ℕ) (s : Settings) (a b : List ℕ) (glances others : List Glance)
     → IsInputSession input s a glances → IsInputSession input s b others → a ≡ b
@@ -41,11 +42,11 @@ one_session_text input s a b glances others x y =
     let program = one_source_program ys.source x.program y.program
     (subst (λ (p : ScriptParts). IsSourceProgram p.source x.program) script xs.is_program) ys.is_program
     (xs.mode ∙ sym ys.mode) in
-    (one_session (course_of y.program s) y.commands opening_session a b glances others
+    (one_session (run_by y.program s) y.commands opening_session a b glances others
     (moved s x.commands y.commands x.program y.program a glances commands program x.is_session) y.is_session).0
 
 -- before the first event nothing was seen
-pub no_session_front : (c : Course) (commands : List MonitorCommand) (s : Session) → IsSessionFront c commands s []
+pub no_session_front : (c : Run) (commands : List MonitorCommand) (s : Session) → IsSessionFront c commands s []
 no_session_front c [] s = refl
 no_session_front c (command ∷ commands) s = inl (record {
   events = 0;
@@ -85,8 +86,8 @@ module _ (input : List ℕ) (s : Settings) (cs : List MonitorCommand) (n : ℕ) 
   pub front_of_session : OfImage image s (ShowsFront s cs before after) → IsFrontOfSession input s before after
   front_of_session told =
       let own = told held.program held.of_image held.mode in
-      let on = session_goes_on (course_of held.program s) (program_of_image image held.program sound held.of_image) cs opening_session
-      own.glances (opens_sound held.program s.limit) own.is_front in
+      let on = session_goes_on (run_by held.program s) (program_of_image image held.program sound held.of_image) cs opening_session
+      own.glances (opens_sound (run_by held.program s)) own.is_front in
       record {
         accepted = accepted_input input cs n source image is holds;
         glances = own.glances;

@@ -4,7 +4,7 @@ use Rattle.std.proofs.Common.{Bor, add-one, arith, refl, sym, ap, ap₂, ◌∙�
 use Rattle.std.proofs.lemmas.Bool.{le-ltb, lt-ltb}
 use Rattle.m88_event.specs.Letters.{letter_at}
 use Rattle.m88_event.specs.Run.{IsFirst, NotBefore, letters_from, moment_along}
-use Rattle.m88_event.specs.Timeline.{Moment, after_letter, is_over}
+use Rattle.m88_event.specs.Timeline.{Moment, Run, after_letter, is_over}
 use Rattle.m88_event.specs.declared.letter.Letter.{Letter}
 use Rattle.m88_isa.specs.Machine.{Program}
 use Rattle.m88_board.proofs.Laws.{not_yet, saw_none, saw_then}
@@ -14,7 +14,7 @@ use Rattle.m88_board.specs.Moves.{IsAlong, IsAt, IsStep}
 use Rattle.m88_board.specs.Walks.{is_made, moments_from, stops_after}
 use Rattle.m88_board.specs.declared.glance.Glance.{Glance}
 use Rattle.m88_session.specs.Inside.Fronts.{MakesEach}
-use Rattle.m88_session.specs.Session.{Course, Session, moment_on, session_on, stops_command, stops_on}
+use Rattle.m88_session.specs.Session.{Session, moment_on, session_on, stops_command, stops_on}
 use Rattle.m88_session.specs.Inside.SessionKept.{StandsAt}
 use Rattle.m88_session.specs.declared.monitor.Monitor.{Monitor}
 use Rattle.m88_session.specs.declared.script.MonitorCommand.{MonitorCommand}
@@ -28,28 +28,17 @@ or_true false b h = h
 with_taken : Session → ℕ → Session
 with_taken s n = record s { taken = n }
 
-module _ (c : Course) (s : Session) where
-  -- what is told of a walk by where its monitor stands is told of it by where the session stands
-  pub as_session : (m : Monitor) (P : ℕ → List Letter → ℕ → Type 0) → StandsAt c s m
-      → P m.walk.board.now.limit m.walk.schedule.now m.walk.taken → P c.limit c.schedule s.taken
-  as_session m P stands h =
-      subst (P c.limit c.schedule) stands.taken
-      (subst (λ ls. P c.limit ls m.walk.taken) stands.schedule
-      (subst (λ n. P n m.walk.schedule.now m.walk.taken) stands.limit h))
-
+module _ (c : Run) (s : Session) where
   -- a walk made some events before it was to stop, or all of them
-  abbrev pub BeforeFrom : (Program → ℕ → Moment → Bool) → (before after : Option (List Glance))
-      → ℕ → List Letter → ℕ → Type 0
-  BeforeFrom enough before after limit schedule taken =
-      (k : ℕ) × NotBefore (stops_after enough c.program c.named limit schedule taken s.moment) k
-      × Saw before after (glances_along c.program (moments_from c.program c.named limit schedule taken s.moment) k)
+  abbrev pub BeforeFrom : (Program → ℕ → Moment → Bool) → (before after : Option (List Glance)) → ℕ → Type 0
+  BeforeFrom enough before after taken =
+      (k : ℕ) × NotBefore (stops_after enough c taken s.moment) k
+      × Saw before after (glances_along c.program (moments_from c taken s.moment) k)
 
-  abbrev pub WalkedFrom : (Program → ℕ → Moment → Bool) → (before after : Option (List Glance)) → Monitor
-      → ℕ → List Letter → ℕ → Type 0
-  WalkedFrom enough before after new limit schedule taken =
-      (k : ℕ) × IsFirst (stops_after enough c.program c.named limit schedule taken s.moment) k
-      × IsAlong c.program c.named (moments_from c.program c.named limit schedule taken s.moment) k before after
-      new.walk.board.now
+  abbrev pub WalkedFrom : (Program → ℕ → Moment → Bool) → (before after : Option (List Glance)) → Monitor → ℕ → Type 0
+  WalkedFrom enough before after new taken =
+      (k : ℕ) × IsFirst (stops_after enough c taken s.moment) k
+      × IsAlong c (moments_from c taken s.moment) k before after new.walk.board.now
       × (new.walk.taken ≡ taken + k)
 
   -- so the session stands where the walk stopped
@@ -62,18 +51,16 @@ module _ (c : Course) (s : Session) where
 
   pub walked_on : (enough : Program → ℕ → Moment → Bool) (old new : Monitor) (before after : Option (List Glance))
       → StandsAt c s old → new.breakpoints.items ≡ old.breakpoints.items → StaysOnRun old.walk new.walk
-      → WalkedFrom enough before after new old.walk.board.now.limit old.walk.schedule.now old.walk.taken
-      → Walked enough before after new
+      → WalkedFrom enough before after new old.walk.taken → Walked enough before after new
   unfolding session_on
   walked_on enough old new before after stands breakpoints stays walked =
-      let own = as_session old (WalkedFrom enough before after new) stands walked in
+      let own = subst (WalkedFrom enough before after new) stands.taken walked in
       record {
         events = own.0;
         first = own.1;
         saw = own.2.saw;
         stands = record {
           schedule = ap (λ (x : Bor (List Letter)). x.now) stays.schedule ∙ stands.schedule;
-          limit = stays.same.limit ∙ stands.limit;
           at = own.2.at;
           taken = own.3;
           breakpoints = breakpoints ∙ stands.breakpoints;
@@ -99,58 +86,50 @@ module _ (c : Course) (s : Session) where
 
   -- and after one more
   pub along_next : (k : ℕ) (before here after : Option (List Glance)) (old new : Monitor) → IsAlongOn k before here old
-      → IsStep c.program c.named (letter_at old.walk.schedule.now old.walk.taken) (moment_on c s k) here after
-      old.walk.board.now new.walk.board.now → StaysOnRun old.walk new.walk → new.walk.taken ≡ old.walk.taken + 1
+      → IsStep c (letter_at old.walk.schedule.now old.walk.taken) (moment_on c s k) here after new.walk.board.now
+      → StaysOnRun old.walk new.walk → new.walk.taken ≡ old.walk.taken + 1
       → new.breakpoints.items ≡ old.breakpoints.items → IsAlongOn (k + 1) before after new
   unfolding session_on moment_along glances_along
-  along_next k before here after old new along step stays taken breakpoints =
+  along_next k before here after old new along made stays taken breakpoints =
       let stands = along.stands in
       let last : Moment = moment_on c s k in
-      let letter : letter_at old.walk.schedule.now old.walk.taken ≡ letters_from c.schedule s.taken k =
-      ap₂ letter_at stands.schedule stands.taken in
-      let next : after_letter c.program c.named old.walk.board.now.limit (letter_at old.walk.schedule.now old.walk.taken) last
-      ≡ after_letter c.program c.named c.limit (letters_from c.schedule s.taken k) last =
-      ap₂ (λ (n : ℕ) (l : Letter). after_letter c.program c.named n l last) stands.limit letter in
+      let step : IsStep c (letters_from c.schedule s.taken k) last here after new.walk.board.now =
+      subst (λ (l : Letter). IsStep c l last here after new.walk.board.now) (ap₂ letter_at stands.schedule stands.taken) made in
       let place = stands.taken in
       subst (λ n. IsAlongOn n before after new) (sym (add-one k)) (record {
         stands = record {
           schedule = ap (λ (x : Bor (List Letter)). x.now) stays.schedule ∙ stands.schedule;
-          limit = stays.same.limit ∙ stands.limit;
-          at = subst (λ (m : Moment). IsAt c.program c.named m new.walk.board.now) next step.at;
+          at = step.at;
           taken = omega (arith, taken, place);
           breakpoints = breakpoints ∙ stands.breakpoints;
         };
         saw = saw_then before here after (glances_along c.program (moment_on c s) k)
-            (glance_at c.program (after_letter c.program c.named c.limit (letters_from c.schedule s.taken k) last) ∷ []) along.saw
-            (subst (λ (m : Moment). Saw here after (glance_at c.program m ∷ [])) next step.saw);
+            (glance_at c.program (after_letter c (letters_from c.schedule s.taken k) last) ∷ []) along.saw step.saw;
       })
 
   -- the board stands at the session's moment
   pub at_on : (k : ℕ) (monitor : Monitor) → StandsAt c (session_on c s k) monitor
-      → IsAt c.program c.named (moment_on c s k) monitor.walk.board.now
+      → IsAt c (moment_on c s k) monitor.walk.board.now
   unfolding session_on
   at_on k monitor stands = stands.at
 
   -- the run is over where the board says so
   pub over_on : (k : ℕ) (monitor : Monitor) (result : Bool) → StandsAt c (session_on c s k) monitor
-      → ((p : Program) (named : ℕ → Bool) (m : Moment) → IsAt p named m monitor.walk.board.now
-      → result ≡ is_over p monitor.walk.board.now.limit m) → is_over c.program c.limit (moment_on c s k) ≡ result
-  unfolding session_on
-  over_on k monitor result stands says =
-      ap (λ n. is_over c.program n (moment_on c s k)) (sym stands.limit)
-      ∙ sym (says c.program c.named (moment_on c s k) stands.at)
+      → ((r : Run) (m : Moment) → IsAt r m monitor.walk.board.now → result ≡ is_over r m)
+      → is_over c (moment_on c s k) ≡ result
+  over_on k monitor result stands says = sym (says c (moment_on c s k) (at_on k monitor stands))
 
   -- one event more is wanted before all are made, where the run isn't over; and none else
-  pub wants_more : (most k : ℕ) → k < most → is_over c.program c.limit (moment_on c s k) ≡ false
+  pub wants_more : (most k : ℕ) → k < most → is_over c (moment_on c s k) ≡ false
       → stops_on c s (is_made most) k ≡ false
   wants_more most k h goes = ap₂ (λ a b. not a || b) (lt-ltb k most h) goes
 
-  pub wants_none : (most k : ℕ) → is_over c.program c.limit (moment_on c s k) ≡ true
+  pub wants_none : (most k : ℕ) → is_over c (moment_on c s k) ≡ true
       → stops_on c s (is_made most) k ≡ true
   wants_none most k over = or_true (not (nat_lt k most)) _ over
 
   pub made_all : (most k : ℕ) → most ≤ k → stops_on c s (is_made most) k ≡ true
-  made_all most k h = ap (λ a. not a || is_over c.program c.limit (moment_on c s k)) (le-ltb k most h)
+  made_all most k h = ap (λ a. not a || is_over c (moment_on c s k)) (le-ltb k most h)
 
   -- a command went on before one event more
   pub each_next : (command : MonitorCommand) (k : ℕ) → MakesEach c s command k → stops_command c s command k ≡ false

@@ -2,7 +2,7 @@
 use Rattle.std.specs.Prelude.{ℕ, Bool, true, List, [], ◌∷◌, ◌++◌, ◌≡◌}
 use Rattle.std.proofs.Common.{append_assoc, append-nil, inl, inr, refl, sym, ap, ◌∙◌}
 use Rattle.m88_event.specs.Run.{letters_from}
-use Rattle.m88_event.specs.Timeline.{Moment}
+use Rattle.m88_event.specs.Timeline.{Moment, Run}
 use Rattle.m88_event.specs.declared.letter.Letter.TheVariants.{Answer}
 use Rattle.m88_isa.specs.Machine.{IsProgram, Program}
 use Rattle.m88_board.specs.Walks.{is_halt, is_made}
@@ -10,36 +10,36 @@ use Rattle.m88_board.specs.declared.glance.Glance.{Glance}
 use Rattle.m88_session.proofs.Ends.{IsSound, draining_ends, first_of, glances_go_on, no_later, sound_along, walk_ends}
 use Rattle.m88_session.proofs.MonitorWalks.{or_true}
 use Rattle.m88_session.specs.Inside.Fronts.{IsSessionFront}
-use Rattle.m88_session.specs.Session.{Course, IsSession, Makes, Session, after_command, glances_of, moment_on, moments_of, session_on, stops_command, stops_on, text_of_command}
+use Rattle.m88_session.specs.Session.{IsSession, Makes, Session, after_command, glances_of, moment_on, moments_of, session_on, stops_command, stops_on, text_of_command}
 use Rattle.m88_session.specs.declared.script.MonitorCommand.{MonitorCommand}
 use Rattle.m88_session.specs.declared.script.MonitorCommand.TheVariants.{Step, Go, Drain, Trace}
 
-module _ (c : Course) (is : IsProgram c.program) where
+module _ (c : Run) (is : IsProgram c.program) where
   abbrev pub StandsSound : Session → Type 0
-  StandsSound s = IsSound c.program c.limit s.moment
+  StandsSound s = IsSound c s.moment
 
   -- a walk stops where the run is over, if not before
   stops : (s : Session) → StandsSound s → (enough : Program → ℕ → Moment → Bool) → (n : ℕ) × (stops_on c s enough n ≡ true)
   stops s sound enough =
-      let over = walk_ends c.program c.named c.limit is c.schedule s.taken s.moment sound (letters_from c.schedule s.taken) (λ k. refl) in
+      let over = walk_ends c is s.taken s.moment sound (letters_from c.schedule s.taken) (λ k. refl) in
       (over.0, or_true (enough c.program over.0 (moment_on c s over.0)) _ over.1)
 
   makes : (s : Session) → StandsSound s → (command : MonitorCommand) → (n : ℕ) × Makes c s command n
   makes s sound (Step most) = let n = stops s sound (is_made most) in first_of _ n.0 n.1
   makes s sound (Trace most) = let n = stops s sound (is_made most) in first_of _ n.0 n.1
   makes s sound Go = let n = stops s sound (is_halt s.breakpoints) in first_of _ n.0 n.1
-  makes s sound Drain = let n = draining_ends c.program c.named c.limit is c.schedule s.taken s.moment sound in first_of _ n.0 n.1
+  makes s sound Drain = let n = draining_ends c is s.taken s.moment sound in first_of _ n.0 n.1
   makes s sound _ = first_of _ 0 refl
 
   walked : (s : Session) → StandsSound s → (n : ℕ) → StandsSound (session_on c s n)
   unfolding session_on
-  walked s sound n = sound_along c.program c.named c.limit is (letters_from c.schedule s.taken) s.moment n sound
+  walked s sound n = sound_along c is (letters_from c.schedule s.taken) s.moment n sound
 
   stays_sound : (s : Session) → StandsSound s → (command : MonitorCommand) (n : ℕ) → StandsSound (after_command c s command n)
+  stays_sound s sound Drain n = sound_along c is (λ k. Answer) s.moment n sound
   stays_sound s sound (Step most) n = walked s sound n
   stays_sound s sound (Trace most) n = walked s sound n
   stays_sound s sound Go n = walked s sound n
-  stays_sound s sound Drain n = sound_along c.program c.named c.limit is (λ k. Answer) s.moment n sound
   stays_sound s sound _ n = sound
 
   -- so commands have a session

@@ -1,5 +1,5 @@
 -- What the commands of the monitor write of a moment of the timeline (the monitor's text, docs/FORMATS.md).
-use Rattle.std.specs.Prelude.{ℕ, zero, suc, Bool, List, [], ◌∷◌, ◌++◌, Option, Some, None, codes, decimal, length, map, ◌+◌}
+use Rattle.std.specs.Prelude.{ℕ, zero, suc, List, [], ◌∷◌, ◌++◌, Option, Some, None, codes, decimal, length, map, ◌+◌}
 use Rattle.std.specs.List.{flat_map, range_with_len}
 use Rattle.m88_base.specs.Hex.{hex2, hex8}
 use Rattle.m88_base.specs.Lines.{line_end}
@@ -13,7 +13,7 @@ use Rattle.m88_disasm.specs.Text.{instr_text}
 use Rattle.m88_event.specs.EndText.{run_end_line}
 use Rattle.m88_event.specs.Letters.{letter_byte}
 use Rattle.m88_event.specs.Local.{register_shown}
-use Rattle.m88_event.specs.Timeline.{Moment, nip_at, said_at}
+use Rattle.m88_event.specs.Timeline.{Moment, Run, nip_at, said_at}
 use Rattle.m88_event.specs.declared.happened.Happened.{Happened}
 use Rattle.m88_event.specs.declared.happened.Happened.TheVariants as happened
 use Rattle.m88_event.specs.declared.happened.Why.{Why}
@@ -87,8 +87,8 @@ letter_text number letter = decimal number ++ codes " " ++ letter_byte letter �
 
 -- the line of the event of a letter at a moment: its number, its letter, what it did. What is issued, and the trap that
 -- puts a byte out, is the instruction at NIP; a record has the number behind those before it.
-unfoldable pub event_line : Program → (ℕ → Bool) → ℕ → Letter → Moment → List ℕ
-event_line p named limit letter m =
+unfoldable pub event_line : Run → Letter → Moment → List ℕ
+event_line r letter m =
     letter_text (m.events + 1) letter
-    ++ happened_line (nip_at p m).addr (instruction_at p (nip_at p m).addr) (length m.records + 1)
-    (said_at p named limit letter m)
+    ++ happened_line (nip_at r.program m).addr (instruction_at r.program (nip_at r.program m).addr) (length m.records + 1)
+    (said_at r letter m)

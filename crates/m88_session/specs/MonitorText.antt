@@ -6,8 +6,8 @@ use Rattle.m88_board.specs.declared.glance.Glance.{Glance}
 use Rattle.m88_asm.specs.Sources.{IsSourceProgram}
 use Rattle.m88_session.specs.Monitoring.{IsMonitorInput}
 use Rattle.m88_session.specs.Script.{IsScript}
-use Rattle.m88_session.specs.Session.{IsSession, course_of, opening_session}
-use Rattle.m88_session.specs.Settings.{Settings}
+use Rattle.m88_session.specs.Session.{IsSession, opening_session}
+use Rattle.m88_session.specs.Settings.{Settings, run_by}
 use Rattle.m88_session.specs.declared.script.MonitorCommand.{MonitorCommand}
 
 -- the commands of an input's script, and a program of the source behind it, in a mode
@@ -24,7 +24,7 @@ pub record IsInputSession (input : List ℕ) (settings : Settings) (text : List 
   pub commands : List MonitorCommand
   pub program : Program
   pub scripted : Scripted input settings.mxm commands program
-  pub is_session : IsSession (course_of program settings) commands opening_session text glances
+  pub is_session : IsSession (run_by program settings) commands opening_session text glances
 
 -- the text is what a session writes
 abbrev pub IsMonitorText : List ℕ → Settings → List ℕ → Type 0

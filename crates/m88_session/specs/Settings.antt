@@ -2,7 +2,9 @@
 use Rattle.std.specs.Prelude.{ℕ, Bool, ◌≤◌, List}
 use Rattle.m88_base.specs.declared.absent.Absent.{Absent}
 use Rattle.m88_board.specs.Kept.{most_retired}
+use Rattle.m88_event.specs.Timeline.{Run, run_with}
 use Rattle.m88_event.specs.declared.letter.Letter.{Letter}
+use Rattle.m88_isa.specs.Machine.{Program}
 use Rattle.m88_mem.specs.Marks.{NamesPages, absent_in}
 use Rattle.m88_session.specs.declared.settings.Settings.{Settings as Kept}
 
@@ -13,6 +15,10 @@ pub record Settings : Type 0 where
   pub absent : ℕ → Bool
   pub schedule : List Letter
   pub mxm : Bool
+
+-- the run of a program with settings
+abbrev pub run_by : Program → Settings → Run
+run_by p s = run_with p s.absent s.limit s.schedule
 
 -- the settings of a limit, absent pages, a schedule and a mode
 abbrev pub settings_of : ℕ → Absent → List Letter → Bool → Settings

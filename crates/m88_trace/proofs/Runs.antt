@@ -46,13 +46,13 @@ runs_first r k b s e at text waiting =
     })
 
 -- and after one event more
-pub runs_next : (r : Run) (letters : List Letter) (k last : ℕ) (b c : BoardView) (s t : Sheet) → letters ≡ r.schedule →
+pub runs_next : (r : Run) {letters : List Letter} {k last : ℕ} {b c : BoardView} {s t : Sheet} → letters ≡ r.schedule →
     last ≡ k + 1 → Runs r k b s → is_over r (moment_after r k) ≡ false →
     IsAt r (after_letter r (letter_at letters k) (moment_after r k)) c →
     IsTraced r.program (after_letter r (letter_at letters k) (moment_after r k)) t →
     Runs r last c t
 unfolding moment_along
-runs_next r letters k last b c s t same counts runs goes at traced =
+runs_next r {letters} {k} {c} {t} same counts runs goes at traced =
     subst (λ (n : ℕ). Runs r n c t) (sym (counts ∙ add-one k)) (record {
       at = subst (λ (xs : List Letter). IsAt r (after_letter r (letter_at xs k) (moment_after r k)) c) same at;
       traced =

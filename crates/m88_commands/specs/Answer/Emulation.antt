@@ -9,7 +9,7 @@ use Rattle.m88_emul.specs.Timeline.{IsExtendedOutcome}
 use Rattle.m88_emul.specs.declared.emulation.EmulOutcome.{EmulOutcome}
 use Rattle.m88_emul.specs.declared.emulation.Emulation.{Emulation}
 use Rattle.m88_commands.specs.Answer.Numbered.{numbered_event}
-use Rattle.m88_session.specs.Settings.{Settings}
+use Rattle.m88_session.specs.Settings.{Settings, run_by}
 use Rattle.m88_asm.specs.Sources.{HoldsOfProgram}
 
 -- the line of an emulation with its number: its event, the address of the instruction, and the vector that it raised
@@ -28,4 +28,4 @@ told_of_emulated o =
 -- the text is what is told of what a run of the source's program comes to, MXM clear
 abbrev pub IsEmulatedText : List ℕ → Settings → List ℕ → Type 0
 IsEmulatedText source s text = HoldsOfProgram source (λ p.
-    (o : EmulOutcome) × IsExtendedOutcome p s.absent s.limit s.schedule o × (text ≡ told_of_emulated o))
+    (o : EmulOutcome) × IsExtendedOutcome (run_by p s) o × (text ≡ told_of_emulated o))

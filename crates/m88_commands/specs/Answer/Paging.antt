@@ -6,7 +6,7 @@ use Rattle.m88_pager.specs.Paged.{AreCounts}
 use Rattle.m88_pager.specs.declared.paged.Paged.{Paged}
 use Rattle.m88_report.specs.Report.{count_line, report_of}
 use Rattle.m88_asm.specs.Sources.{HoldsOfProgram}
-use Rattle.m88_session.specs.Settings.{Settings}
+use Rattle.m88_session.specs.Settings.{Settings, run_by}
 
 -- what is told of such a run: its report, the number of frames, how often a page came into one, and how often one that
 -- was written went out
@@ -20,7 +20,7 @@ told_of_paged frames o =
 -- a run of the source's program comes to this before so many frames, MXM clear
 abbrev pub PagesTo : List ℕ → ℕ → Settings → Paged → Type 0
 PagesTo source frames s o =
-    HoldsOfProgram source (λ p. IsOutcome p s.absent s.limit s.schedule o.outcome × AreCounts p frames o)
+    HoldsOfProgram source (λ p. IsOutcome (run_by p s) o.outcome × AreCounts p frames o)
 
 -- the text is what is told of that, and every run of the source with that limit and so many frames has these counts,
 -- whatever pages are absent and whatever the schedule is

@@ -10,7 +10,7 @@ use Rattle.m88_srec.specs.Accepted.{IsAccepted, whole_of}
 use Rattle.m88_event.specs.Run.{IsOutcome}
 use Rattle.m88_event.specs.declared.outcome.Outcome.{Outcome}
 use Rattle.m88_commands.specs.Limits.{most_statements}
-use Rattle.m88_session.specs.Settings.{Settings}
+use Rattle.m88_session.specs.Settings.{Settings, run_by}
 use Rattle.m88_commands.specs.Answer.Workload.{summary_of, workload_schedule, workload_source}
 
 -- the program is that of the image that S-records write
@@ -26,7 +26,7 @@ pub record IsReport (told_of : Outcome → List ℕ) (IsSuch : Program → Type 
   pub is_such : IsSuch program
   pub mode : program.mxm ≡ settings.mxm
   pub outcome : Outcome
-  pub is_outcome : IsOutcome program settings.absent settings.limit settings.schedule outcome
+  pub is_outcome : IsOutcome (run_by program settings) outcome
   pub is_text : text ≡ told_of outcome
 
 -- the settings of the run of a workload: as many instructions as it has statements, each page absent at first, its

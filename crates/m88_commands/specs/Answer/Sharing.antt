@@ -52,7 +52,7 @@ abbrev pub group_of : List Program → ℕ → (ℕ → Bool) → Group
 group_of programs limit absent = record {
   count = length programs;
   programs = λ k. unwrap_or (slice_get programs k) no_program;
-  named = absent;
+  absent = absent;
   limit = limit;
 }
 

@@ -8,13 +8,13 @@ use Rattle.m88_event.specs.declared.outcome.Outcome.{Outcome}
 use Rattle.m88_isa.specs.Machine.{Program}
 use Rattle.m88_report.specs.Report.{report_of}
 use Rattle.m88_session.specs.Running.{GoesAlong}
-use Rattle.m88_session.specs.Settings.{Settings}
+use Rattle.m88_session.specs.Settings.{Settings, run_by}
 use Rattle.m88_commands.specs.Inside.Fronts.{SawFront, SawRun}
 
 -- a run comes to an outcome of which something is told
 pub record TellsOutcome {T : Type 0} (IsTold : T → Outcome → Type 0) (s : Settings) (x : T) (p : Program) : Type 0 where
   pub outcome : Outcome
-  pub is_outcome : IsOutcome p s.absent s.limit s.schedule outcome
+  pub is_outcome : IsOutcome (run_by p s) outcome
   pub is_told : IsTold x outcome
 
 -- the program of an image is run: what its run comes to is told, and a watch was shown the run

@@ -1,6 +1,6 @@
 -- Where the monitor stands, and what a command made of it.
 use Rattle.std.specs.Prelude.{ℕ, List, [], ◌∷◌, ◌++◌, ◌≡◌, ◌+◌, Option, Result, OnErr, OnOk, count_by, length}
-use Rattle.m88_event.specs.Timeline.{Moment, nip_at}
+use Rattle.m88_event.specs.Timeline.{Moment, Run, nip_at}
 use Rattle.m88_event.specs.declared.happened.Happened.{Happened}
 use Rattle.m88_event.specs.declared.letter.Letter.{Letter}
 use Rattle.m88_isa.specs.Held.{instruction_at}
@@ -10,41 +10,40 @@ use Rattle.m88_board.specs.Moves.{IsAt}
 use Rattle.m88_board.specs.declared.glance.Glance.{Glance}
 use Rattle.m88_session.specs.Script.{is_break}
 use Rattle.m88_session.specs.Inside.Fronts.{IsSessionFront, MakesEach}
-use Rattle.m88_session.specs.Session.{Course, IsSession, Makes, Session, after_command, course_of, glances_of, opening_session, text_of_command}
+use Rattle.m88_session.specs.Session.{IsSession, Makes, Session, after_command, glances_of, opening_session, text_of_command}
 use Rattle.m88_session.specs.MonitorLines.{happened_line, letter_text}
-use Rattle.m88_session.specs.Settings.{Settings}
+use Rattle.m88_session.specs.Settings.{Settings, run_by}
 use Rattle.m88_session.specs.declared.monitor.Monitor.{Monitor}
 use Rattle.m88_session.specs.declared.monitor.tracing.Before.{Before}
 use Rattle.m88_session.specs.declared.script.MonitorCommand.{MonitorCommand}
 
--- the monitor stands where a session of a course stands
-pub record StandsAt (c : Course) (s : Session) (monitor : Monitor) : Type 0 where
-  pub schedule : monitor.walk.schedule.now ≡ c.schedule
-  pub limit : monitor.walk.board.now.limit ≡ c.limit
-  pub at : IsAt c.program c.named s.moment monitor.walk.board.now
+-- the monitor stands where a session of a run stands
+pub record StandsAt (r : Run) (s : Session) (monitor : Monitor) : Type 0 where
+  pub schedule : monitor.walk.schedule.now ≡ r.schedule
+  pub at : IsAt r s.moment monitor.walk.board.now
   pub taken : monitor.walk.taken ≡ s.taken
   pub breakpoints : monitor.breakpoints.items ≡ s.breakpoints
 
 -- it made the events of a command
-pub record Went (c : Course) (s : Session) (command : MonitorCommand)
+pub record Went (r : Run) (s : Session) (command : MonitorCommand)
     (before after : Option (List Glance)) (monitor : Monitor) : Type 0 where
   pub events : ℕ
-  pub makes : Makes c s command events
-  pub stands : StandsAt c (after_command c s command events) monitor
-  pub saw : Saw before after (glances_of c s command events)
+  pub makes : Makes r s command events
+  pub stands : StandsAt r (after_command r s command events) monitor
+  pub saw : Saw before after (glances_of r s command events)
 
 -- and wrote its text
-pub record Carried (c : Course) (s : Session) (command : MonitorCommand)
+pub record Carried (r : Run) (s : Session) (command : MonitorCommand)
     (before after : Option (List Glance)) (old new : List ℕ) (monitor : Monitor) : Type 0 where
-  pub went : Went c s command before after monitor
-  pub text : new ≡ old ++ text_of_command c s command went.events
+  pub went : Went r s command before after monitor
+  pub text : new ≡ old ++ text_of_command r s command went.events
 
 -- memory ran out behind the first events of a command
-pub record Broke (c : Course) (s : Session) (command : MonitorCommand) (before after : Option (List Glance))
+pub record Broke (r : Run) (s : Session) (command : MonitorCommand) (before after : Option (List Glance))
     : Type 0 where
   pub events : ℕ
-  pub each : MakesEach c s command events
-  pub saw : Saw before after (glances_of c s command events)
+  pub each : MakesEach r s command events
+  pub saw : Saw before after (glances_of r s command events)
 
 -- what the monitor answers to a command, wherever in a session it stands: where the command was carried out, there are as
 -- many breakpoints more as it sets, and it went and wrote its text; and else memory ran out behind its first events
@@ -52,9 +51,9 @@ pub record Carries {T E : Type 0} (command : MonitorCommand) (before after : Opt
     (text text' : List ℕ) (result : Result T E) : Type 0 where
   pub set : OnOk result (length new.breakpoints.items
       ≡ length old.breakpoints.items + count_by is_break (command ∷ []))
-  pub ok : OnOk result ((c : Course) (s : Session) → StandsAt c s old
-      → Carried c s command before after text text' new)
-  pub err : OnErr result ((c : Course) (s : Session) → StandsAt c s old → Broke c s command before after)
+  pub ok : OnOk result ((r : Run) (s : Session) → StandsAt r s old
+      → Carried r s command before after text text' new)
+  pub err : OnErr result ((r : Run) (s : Session) → StandsAt r s old → Broke r s command before after)
 
 -- what is noted before the event of a letter is so at a moment
 pub record IsBefore (p : Program) (letter : Letter) (m : Moment) (before : Before) : Type 0 where
@@ -74,12 +73,12 @@ told_line before happened =
 pub record TellsSession (s : Settings) (commands : List MonitorCommand) (before after : Option (List Glance))
     (text : List ℕ) (p : Program) : Type 0 where
   pub glances : List Glance
-  pub is_session : IsSession (course_of p s) commands opening_session text glances
+  pub is_session : IsSession (run_by p s) commands opening_session text glances
   pub saw : Saw before after glances
 
 -- or a front of one
 pub record ShowsFront (s : Settings) (commands : List MonitorCommand) (before after : Option (List Glance))
     (p : Program) : Type 0 where
   pub glances : List Glance
-  pub is_front : IsSessionFront (course_of p s) commands opening_session glances
+  pub is_front : IsSessionFront (run_by p s) commands opening_session glances
   pub saw : Saw before after glances

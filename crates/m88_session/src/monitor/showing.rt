@@ -2,7 +2,7 @@
 ghost use Rattle.std.specs.Prelude.{ℕ, Bool, ◌≡◌, ◌++◌, map, OnOk};
 ghost use Rattle.std.specs.List.{flat_map, range_with_len};
 ghost use Rattle.m88_event.specs.Local.{register_seen};
-ghost use Rattle.m88_event.specs.Timeline.{Moment, record_at};
+ghost use Rattle.m88_event.specs.Timeline.{Moment, Run, record_at};
 ghost use Rattle.m88_isa.specs.Address.{word_address};
 ghost use Rattle.m88_isa.specs.Machine.{Program};
 ghost use Rattle.m88_mem.specs.DataBus.{bus_of};
@@ -18,8 +18,8 @@ use std::alloc::AllocError;
 
 /// Appends the line of the counts: events, instructions retired, transactions done, transactions pending.
 pub(super) fn push_counts(text: &mut Vec<u8>, board: &Board) -> Result<(), NoMemory>
-    ensures { OnOk result ((p : Program) (named : ℕ → Bool) (m : Moment) → IsAt p named m board.now
-        → text.new.items ≡ text.old.items ++ counts_text p m) }
+    ensures { OnOk result ((r : Run) (m : Moment) → IsAt r m board.now
+        → text.new.items ≡ text.old.items ++ counts_text r.program m) }
 {
     push_count_line(
         text,
@@ -56,8 +56,8 @@ fn push_count_line(
 
 /// Appends the lines of the registers, of which one that waits for a load has no value, and that of the carry.
 pub(super) fn push_all_registers(text: &mut Vec<u8>, board: &Board) -> Result<(), NoMemory>
-    ensures { OnOk result ((p : Program) (named : ℕ → Bool) (m : Moment) → IsAt p named m board.now
-        → text.new.items ≡ text.old.items ++ registers_text p m) }
+    ensures { OnOk result ((r : Run) (m : Moment) → IsAt r m board.now
+        → text.new.items ≡ text.old.items ++ registers_text r.program m) }
 {
     push_registers(text, &registers_of(board))?;
     push_carry(text, board.carry())?;
@@ -68,8 +68,8 @@ pub(super) fn push_all_registers(text: &mut Vec<u8>, board: &Board) -> Result<()
 fn registers_of(board: &Board) -> [Option<u32>; 32]
     ensures value { result ≡ map (register_seen board.now.pending (completed_of board.now).regs)
         (range_with_len 0 32) }
-    ensures moment { (p : Program) (named : ℕ → Bool) (m : Moment) → IsAt p named m board.now
-        → result ≡ registers_at p m }
+    ensures moment { (r : Run) (m : Moment) → IsAt r m board.now
+        → result ≡ registers_at r.program m }
 {
     let mut registers = [None; 32];
     for n in 0..32 {
@@ -80,8 +80,8 @@ fn registers_of(board: &Board) -> [Option<u32>; 32]
 
 /// Appends the four lines of the record that a data fault now would leave.
 pub(super) fn push_pipe(text: &mut Vec<u8>, board: &Board) -> Result<(), NoMemory>
-    ensures { OnOk result ((p : Program) (named : ℕ → Bool) (m : Moment) → IsAt p named m board.now
-        → text.new.items ≡ text.old.items ++ record_lines (record_at p named board.now.limit m)) }
+    ensures { OnOk result ((r : Run) (m : Moment) → IsAt r m board.now
+        → text.new.items ≡ text.old.items ++ record_lines (record_at r m)) }
 {
     push_record(text, &board.pipe())?;
     Ok(())
@@ -96,9 +96,9 @@ pub(super) fn push_words(
 ) -> Result<(), NoMemory>
     ensures value { OnOk result (text.new.items ≡ text.old.items
         ++ flat_map word_line (words_from (bus_of board.now.memory) (word_address address) count)) }
-    ensures moment { OnOk result ((p : Program) (named : ℕ → Bool) (m : Moment)
-        → IsAt p named m board.now
-        → text.new.items ≡ text.old.items ++ words_text p m address count) }
+    ensures moment { OnOk result ((r : Run) (m : Moment)
+        → IsAt r m board.now
+        → text.new.items ≡ text.old.items ++ words_text r.program m address count) }
 {
     let mut at = address / 4 * 4;
     for _line in 0..count {

@@ -2,7 +2,7 @@
 ghost use Rattle.std.specs.Prelude.{ℕ, Bool, ◌≡◌, ◌++◌, ◌%◌, Option, IfSome, OnOk, codes, decimal};
 ghost use Rattle.m88_base.specs.Hex.{hex2, hex8};
 ghost use Rattle.m88_base.specs.Lines.{line_end};
-ghost use Rattle.m88_event.specs.Timeline.{Moment};
+ghost use Rattle.m88_event.specs.Timeline.{Moment, Run};
 ghost use Rattle.m88_isa.specs.Held.{instruction_at};
 ghost use Rattle.m88_isa.specs.Instr.{IsValid};
 ghost use Rattle.m88_isa.specs.Machine.{Program};
@@ -62,8 +62,8 @@ impl<'a> Monitor<'a> {
 
 /// What the line of the event of a letter wants to know of the board.
 fn noted(board: &Board, letter: Letter) -> Before
-    ensures before { (p : Program) (named : ℕ → Bool) (m : Moment) → IsAt p named m board.now
-        → IsBefore p letter m result }
+    ensures before { (r : Run) (m : Moment) → IsAt r m board.now
+        → IsBefore r.program letter m result }
     ensures valid { IfSome result.instruction IsValid }
 {
     let address = board.iunit().candidate().addr;
@@ -79,8 +79,8 @@ fn noted(board: &Board, letter: Letter) -> Before
 /// The instruction at the address of a word, where there is one.
 fn instruction_at(board: &Board, address: u32) -> Option<Instr>
     requires { address % 4 ≡ 0 }
-    ensures value { (p : Program) (named : ℕ → Bool) (m : Moment) → IsAt p named m board.now
-        → result ≡ instruction_at p address }
+    ensures value { (r : Run) (m : Moment) → IsAt r m board.now
+        → result ≡ instruction_at r.program address }
     ensures valid { IfSome result IsValid }
 {
     let word = board.fetched(address)?;

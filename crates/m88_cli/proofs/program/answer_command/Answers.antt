@@ -1,12 +1,13 @@
 -- What is written is the reply, whole or a part of it, what is told is its refusal, and the watch was shown what it says.
-use Rattle.std.proofs.Common.{◌≡◌, Err, Some, ap, inl, inr, refl, subst, sym, ◌∙◌}
+use Rattle.std.proofs.Common.{◌≡◌, ◌⊎◌, ℕ, List, Err, Some, ap, inl, inr, refl, subst, sym, ◌∙◌}
 use Rattle.m88_base.proofs.Laws.{answers_input, answers_nothing, answers_reply, none_of_reading}
 use Rattle.m88_base.specs.Filter.{AnswersFor}
-use Rattle.m88_base.specs.Status.{Answers}
+use Rattle.m88_base.specs.Status.{Answers, WritesNothing}
 use Rattle.m88_commands.proofs.Laws.{command_laws, refused_not_accepted}
 use Rattle.m88_commands.specs.Answer.{Accepts}
 use Rattle.m88_commands.specs.Command.{Command, command_of, reads_input, shows_boards}
-use Rattle.m88_commands.specs.Inputs.{left_for}
+use Rattle.m88_commands.specs.Inputs.{GivesInput, left_for}
+use Rattle.m88_commands.specs.Watching.{FrontOfAccepted}
 use Rattle.m88_cli.specs.Calls.{AcceptedWith, RefusedWith}
 use Rattle.m88_cli.proofs.Answering.{not_of_source, not_refused, only_memory, shows_refused, unanswered, watch_unshown}
 use Rattle.m88_cli.proofs.Replied.{answers_as, refused_some, told_by, verdicts}
@@ -108,6 +109,19 @@ returns-in-Ok-clause-unshown g c = λ none. elim none [
       let ok = c.in-Ok.ensures.ok in watch_unshown c.in-Ok.reply.refused _ _ refused.0 ok.3
   | inr silent ↦ c.reply_from.ensures.unshown_by (silent (command_of c.in-Some.command) c.in-Some.ensures.found)
 ]
+
+pub returns-in_default-clause-front : goal.returns-in_default-clause-front
+returns-in_default-clause-front g c = λ command spelled e. absurd (c.in_default.ensures.only command spelled)
+
+pub returns-in-Err-clause-front : goal.returns-in-Err-clause-front
+returns-in-Err-clause-front g c = λ command spelled e.
+    subst (λ (d : Command). (c.reply_from.new.watch ≡ c.args.watch.now) ⊎ ((input : List ℕ)
+    × GivesInput d (g.S.Source.left c.args.source.now) (g.S.Source.left c.reply_from.new.source) input
+    × FrontOfAccepted d input (g.W.Watch.seen c.args.watch.now) (g.W.Watch.seen c.reply_from.new.watch)))
+    (c.in-Some.ensures.only command spelled) c.in-Err.ensures.front
+
+pub returns-in-Ok-clause-front : goal.returns-in-Ok-clause-front
+returns-in-Ok-clause-front g c = λ command spelled e. absurd (c.write_to.ensures.written (subst WritesNothing (sym e) tt))
 
 pub returns-in_default-clause-laws : goal.returns-in_default-clause-laws
 returns-in_default-clause-laws g c = command_laws

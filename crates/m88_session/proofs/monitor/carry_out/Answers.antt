@@ -7,8 +7,8 @@ use Rattle.m88_event.specs.Timeline.{opening_moment}
 use Rattle.m88_session.proofs.Carrying.{IsCarrying, carry_broke, carry_end, carry_next, carry_start, room_here, room_next}
 use Rattle.m88_session.proofs.InputSessions.{no_session_front}
 use Rattle.m88_session.proofs.Unmade.{goes_none}
-use Rattle.m88_session.specs.Settings.{settings_in}
-use Rattle.m88_session.specs.Session.{course_of, opening_session}
+use Rattle.m88_session.specs.Settings.{run_by, settings_in}
+use Rattle.m88_session.specs.Session.{opening_session}
 use Rattle.m88_session.specs.declared.monitor.Monitor.{Monitor}
 use Rattle.m88_session.proofs.monitor.carry_out.Goals as goal
 
@@ -16,7 +16,7 @@ pub returns-in_err-board : goal.returns-in_err-board
 returns-in_err-board g c =
     goes_none c.from_residual.result (search rules) c.new.ensures.is_image (λ p of mode. record {
       glances = [];
-      is_front = no_session_front (course_of p (settings_in c.args.settings.now)) c.args.commands.now opening_session;
+      is_front = no_session_front (run_by p (settings_in c.args.settings.now)) c.args.commands.now opening_session;
       saw = saw_none (g.W.Watch.seen c.args.watch.now);
     })
 
@@ -27,13 +27,12 @@ loop-command-init g c =
     let none = ap (λ (xs : List ℕ). length xs) c.new-3.ensures in
     record {
       carrying = λ p of mode.
-          subst (λ t. IsCarrying (course_of p s) c.args.commands.now opening_session 0
+          subst (λ t. IsCarrying (run_by p s) c.args.commands.now opening_session 0
           (g.W.Watch.seen c.args.watch.now) (g.W.Watch.seen c.args.watch.now) t begun) (sym c.new-text.ensures.items)
-          (carry_start (course_of p s) c.args.commands.now opening_session (g.W.Watch.seen c.args.watch.now) begun (record {
+          (carry_start (run_by p s) c.args.commands.now opening_session (g.W.Watch.seen c.args.watch.now) begun (record {
             schedule = c.new-2.ensures.schedule;
-            limit = ap (λ (b : BoardView). b.limit) c.new-2.ensures.board ∙ c.in_ok-board.ensures.limit;
-            at = subst (λ (b : BoardView). IsAt p s.absent opening_moment b) (sym c.new-2.ensures.board)
-                (c.in_ok-board.ensures.at p of mode);
+            at = subst (λ (b : BoardView). IsAt (run_by p s) opening_moment b) (sym c.new-2.ensures.board)
+                (c.in_ok-board.ensures.at p s.schedule of mode);
             taken = c.new-2.ensures.taken;
             breakpoints = c.new-3.ensures;
           }));
@@ -46,10 +45,10 @@ loop-command-preserved g c =
     record {
       carrying = λ p of mode.
           let carrying = c.loop-command.invariant.carrying p of mode in
-          carry_next (course_of p s) c.args.commands.now _ opening_session c.loop-command.command-index
+          carry_next (run_by p s) c.args.commands.now _ opening_session c.loop-command.command-index
           (g.W.Watch.seen c.args.watch.now) (g.W.Watch.seen c.loop-command.watch) (g.W.Watch.seen c.carry.new.watch) c.loop-command.text.items
           c.carry.new.text.items c.loop-command.monitor c.carry.new.self c.loop-command-test.true carrying
-          (c.in_ok-carry.ensures.ok (course_of p s) carrying.session carrying.stands);
+          (c.in_ok-carry.ensures.ok (run_by p s) carrying.session carrying.stands);
       room = room_next c.args.commands.now _ c.loop-command.command-index (length c.loop-command.monitor.breakpoints.items)
           (length c.carry.new.self.breakpoints.items) c.loop-command-test.true c.loop-command.invariant.room c.in_ok-carry.ensures.set;
     }
@@ -64,10 +63,10 @@ returns-in_err-carry g c =
     let s = settings_in c.args.settings.now in
     goes_none c.from_residual-in_err-carry.result (search rules) c.new.ensures.is_image (λ p of mode.
     let carrying = c.loop-command.invariant.carrying p of mode in
-    let broke = carry_broke (course_of p s) c.args.commands.now _ opening_session c.loop-command.command-index
+    let broke = carry_broke (run_by p s) c.args.commands.now _ opening_session c.loop-command.command-index
     (g.W.Watch.seen c.args.watch.now) (g.W.Watch.seen c.loop-command.watch) (g.W.Watch.seen c.carry.new.watch) c.loop-command.text.items
     c.loop-command.monitor c.loop-command-test.true carrying
-    (c.in_err-carry.ensures.err (course_of p s) carrying.session carrying.stands) in
+    (c.in_err-carry.ensures.err (run_by p s) carrying.session carrying.stands) in
     record { glances = broke.0; is_front = broke.1; saw = broke.2 })
 
 pub returns : goal.returns
@@ -76,7 +75,7 @@ returns g c =
     record {
       is_image = c.new.ensures.is_image;
       made = λ p of mode.
-          let ended = carry_end (course_of p s) c.args.commands.now opening_session c.loop-command.command-index
+          let ended = carry_end (run_by p s) c.args.commands.now opening_session c.loop-command.command-index
           (g.W.Watch.seen c.args.watch.now) (g.W.Watch.seen c.loop-command.watch) c.loop-command.text.items c.loop-command.monitor
           c.loop-command-test.false (c.loop-command.invariant.carrying p of mode) in
           record { glances = ended.0; is_session = ended.1; saw = ended.2 };

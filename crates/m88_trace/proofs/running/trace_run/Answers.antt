@@ -2,8 +2,7 @@
 use Rattle.std.proofs.Common.{ℕ, List, Bor, ◌≡◌, ◌+◌, false, true, refl, sym, ap, subst, ◌∙◌}
 use Rattle.m88_event.specs.Bound.{one_if}
 use Rattle.m88_event.specs.Local.{is_over_by}
-use Rattle.m88_event.specs.Past.{HasPast}
-use Rattle.m88_event.specs.Run.{HasEvents, moment_after}
+use Rattle.m88_event.specs.Run.{moment_after}
 use Rattle.m88_event.specs.Timeline.{Moment, Run, is_over, opening_moment, run_with}
 use Rattle.m88_event.specs.declared.letter.Letter.{Letter}
 use Rattle.m88_isa.proofs.Laws.{program_of_image}
@@ -12,8 +11,6 @@ use Rattle.m88_board.specs.Board.{BoardView, local_of}
 use Rattle.m88_board.specs.Moves.{IsAt}
 use Rattle.m88_trace.proofs.Runs.{over_alone, over_empty, over_seen, over_text, runs_first, runs_next}
 use Rattle.m88_trace.proofs.running.trace_run.Goals as goal
-use Rattle.m88_trace.specs.Trace.{trace_at}
-use Rattle.m88_isa.specs.Machine.{Program}
 
 pub loop-walk-init : goal.loop-walk-init
 loop-walk-init c = record {
@@ -43,46 +40,48 @@ loop-walk-preserved c =
           let goes : is_over r m ≡ false =
           over_seen r m c.board.result.now c.loop-walk.walk.board.now c.is_over.result c.board.ensures runs.at
           (c.is_over.ensures.moment r m) ∙ c.loop-walk-test.true in
-          runs_next r c.loop-walk.walk.schedule.now c.loop-walk.walk.taken c.step.new.walk.taken c.loop-walk.walk.board.now
-          c.step.new.walk.board.now c.loop-walk.sheet c.step.new.sheet inv.schedule stepped.taken runs goes
+          runs_next r inv.schedule stepped.taken runs goes
           (stepped.at r m runs.at)
           (stepped.traced r m (program_of_image c.args.image.now p c.new.ensures.is_image of) runs.at runs.traced);
     }
 
--- behind the last event: the run is over, and the text is its trace
-ended : (c : goal.After-finish) (p : Program) → IsProgramOf c.args.image.now p → p.mxm ≡ false →
+pub returns-clause-run : goal.returns-clause-run
+returns-clause-run c = λ p of clear.
     let r : Run = run_with p (absent_in c.args.absent.now) c.args.limit c.args.schedule.now in
     let m : Moment = moment_after r c.loop-walk.walk.taken in
-    HasPast r m × HasEvents r c.loop-walk.walk.taken × (c.finish.result.items ≡ trace_at p m)
-ended c p of clear =
+    let runs = c.loop-walk.invariant.runs p of clear in
+    let over : is_over r m ≡ true =
+    over_seen r m c.board.result.now c.loop-walk.walk.board.now c.is_over.result c.board.ensures runs.at
+    (c.is_over.ensures.moment r m) ∙ c.loop-walk-test.false in
+    record {
+      events = c.loop-walk.walk.taken;
+      run = record { here = over; first = runs.first };
+      value = c.finish.ensures _ (over_empty r m c.loop-walk.sheet runs.traced over) ∙ runs.traced.text;
+    }
+
+pub returns-clause-alone : goal.returns-clause-alone
+returns-clause-alone c = λ p of clear.
+    let r : Run = run_with p (absent_in c.args.absent.now) c.args.limit c.args.schedule.now in
+    let m : Moment = moment_after r c.loop-walk.walk.taken in
+    let runs = c.loop-walk.invariant.runs p of clear in
+    let over : is_over r m ≡ true =
+    over_seen r m c.board.result.now c.loop-walk.walk.board.now c.is_over.result c.board.ensures runs.at
+    (c.is_over.ensures.moment r m) ∙ c.loop-walk-test.false in
+    c.finish.ensures _ (over_empty r m c.loop-walk.sheet runs.traced over) ∙ runs.traced.text
+    ∙ over_alone r m runs.at.past over
+
+pub returns-clause-checked : goal.returns-clause-checked
+returns-clause-checked c = λ p of clear.
     let r : Run = run_with p (absent_in c.args.absent.now) c.args.limit c.args.schedule.now in
     let m : Moment = moment_after r c.loop-walk.walk.taken in
     let runs = c.loop-walk.invariant.runs p of clear in
     let over : is_over r m ≡ true =
     over_seen r m c.board.result.now c.loop-walk.walk.board.now c.is_over.result c.board.ensures runs.at
     (c.is_over.ensures.moment r m) ∙ c.loop-walk-test.false in (
-      runs.at.past,
-      record { here = over; first = runs.first },
-      c.finish.ensures _ (over_empty r m c.loop-walk.sheet runs.traced over) ∙ runs.traced.text,
+      m.retired + one_if m.ended,
+      over_text r m c.finish.result.items runs.at.past
+          (c.finish.ensures _ (over_empty r m c.loop-walk.sheet runs.traced over) ∙ runs.traced.text),
     )
-
-pub returns-clause-run : goal.returns-clause-run
-returns-clause-run c = λ p of clear.
-    let end = ended c p of clear in
-    record { events = c.loop-walk.walk.taken; run = end.1; value = end.2 }
-
-pub returns-clause-alone : goal.returns-clause-alone
-returns-clause-alone c = λ p of clear.
-    let r : Run = run_with p (absent_in c.args.absent.now) c.args.limit c.args.schedule.now in
-    let end = ended c p of clear in
-    end.2 ∙ over_alone r (moment_after r c.loop-walk.walk.taken) end.0 end.1.here
-
-pub returns-clause-checked : goal.returns-clause-checked
-returns-clause-checked c = λ p of clear.
-    let r : Run = run_with p (absent_in c.args.absent.now) c.args.limit c.args.schedule.now in
-    let m : Moment = moment_after r c.loop-walk.walk.taken in
-    let end = ended c p of clear in
-    (m.retired + one_if m.ended, over_text r m c.finish.result.items end.0 end.2)
 
 pub step-requires-clause-going : goal.step-requires-clause-going
 step-requires-clause-going c =

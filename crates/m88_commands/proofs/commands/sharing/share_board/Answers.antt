@@ -26,7 +26,7 @@ is_group input images absent limit h s = record {
   count = programs_count images s.programs s.of_images;
   programs = λ q image at. program_held images s.programs no_program q image s.of_images at;
   modes = λ q below. program_mode h.sources s.programs no_program q refl s.are_programs;
-  named = refl;
+  absent_is = refl;
   limited = refl;
 }
 

@@ -1,9 +1,6 @@
 -- Each command by its own.
 use Rattle.std.proofs.Common.{ap, arith, refl, length, length-append, subst, sym, List, [], ◌∷◌, ℕ, ◌++◌, ◌∙◌}
 use Rattle.std.proofs.lemmas.Result.{on_ok_weaker}
-use Rattle.m88_event.specs.Timeline.{record_at}
-use Rattle.m88_report.specs.Report.{record_lines}
-use Rattle.m88_board.specs.Board.{BoardView}
 use Rattle.m88_board.specs.Moves.{IsAt}
 use Rattle.m88_board.specs.declared.walk.Walk.{Walk}
 use Rattle.m88_isa.specs.Address.{word_address}
@@ -30,8 +27,7 @@ returns-in-Break g c =
     (on_ok_weaker c.set_breakpoint.result (λ text d s stands. (
       record {
         schedule = ap (λ (w : Walk). w.schedule.now) c.set_breakpoint.ensures.walk ∙ stands.schedule;
-        limit = ap (λ (w : Walk). w.board.now.limit) c.set_breakpoint.ensures.walk ∙ stands.limit;
-        at = subst (λ (w : Walk). IsAt d.program d.named s.moment w.board.now) (sym c.set_breakpoint.ensures.walk) stands.at;
+        at = subst (λ (w : Walk). IsAt d s.moment w.board.now) (sym c.set_breakpoint.ensures.walk) stands.at;
         taken = ap (λ (w : Walk). w.taken) c.set_breakpoint.ensures.walk ∙ stands.taken;
         breakpoints = c.set_breakpoint.ensures.set
             ∙ ap (λ (xs : List ℕ). xs ++ word_address c.in-Break.address ∷ []) stands.breakpoints;
@@ -44,18 +40,14 @@ pub returns-in-Regs : goal.returns-in-Regs
 returns-in-Regs g c =
     rw c.in-Regs.is (carries_still Regs _ c.args.self.now c.args.self.now _ _ c.push_all_registers.result (omega arith) (λ d s. refl)
     (on_ok_weaker c.push_all_registers.result (λ told d s stands.
-    (stands, told d.program d.named s.moment (rw c.board.ensures stands.at)))
+    (stands, told d s.moment (rw c.board.ensures stands.at)))
     c.push_all_registers.ensures))
 
 pub returns-in-Pipe : goal.returns-in-Pipe
 returns-in-Pipe g c =
     rw c.in-Pipe.is (carries_still Pipe _ c.args.self.now c.args.self.now _ _ c.push_pipe.result (omega arith) (λ d s. refl)
-    (on_ok_weaker c.push_pipe.result (λ told d s stands. (
-      stands,
-      told d.program d.named s.moment (rw c.board-in-Pipe.ensures stands.at)
-          ∙ ap (λ n. c.args.text.now.items ++ record_lines (record_at d.program d.named n s.moment))
-          (ap (λ (b : BoardView). b.limit) c.board-in-Pipe.ensures ∙ stands.limit),
-    ))
+    (on_ok_weaker c.push_pipe.result (λ told d s stands.
+    (stands, told d s.moment (rw c.board-in-Pipe.ensures stands.at)))
     c.push_pipe.ensures))
 
 pub returns-in-Memory : goal.returns-in-Memory
@@ -63,5 +55,5 @@ returns-in-Memory g c =
     rw c.in-Memory.is (carries_still (Memory c.in-Memory.address c.in-Memory.count) _ c.args.self.now c.args.self.now _ _
     c.push_words.result (omega arith) (λ d s. refl)
     (on_ok_weaker c.push_words.result (λ told d s stands.
-    (stands, told d.program d.named s.moment (rw c.board-in-Memory.ensures stands.at)))
+    (stands, told d s.moment (rw c.board-in-Memory.ensures stands.at)))
     c.push_words.ensures.moment))

@@ -1,20 +1,14 @@
 -- The events, and then the line of the counts.
 use Rattle.std.proofs.Common.{Bor, List, ℕ, ap, arith, refl, rules, ◌∙◌}
-use Rattle.m88_board.specs.Moves.{IsAlong}
-use Rattle.m88_event.specs.Run.{IsDrain, IsDraining, answered_after}
 use Rattle.m88_event.specs.declared.letter.Letter.{Letter}
 use Rattle.m88_session.proofs.Carrying.{carries_counts, carries_none}
-use Rattle.m88_session.proofs.MonitorWalks.{as_session}
 use Rattle.m88_session.specs.declared.monitor.Monitor.{Monitor}
 use Rattle.m88_session.specs.declared.script.MonitorCommand.TheVariants.{Drain}
 use Rattle.m88_session.proofs.monitor.Monitor.drain.Goals as goal
 
 pub returns-in_err-drain : goal.returns-in_err-drain
 returns-in_err-drain g c = carries_none Drain _ _ _ _ _ _ c.from_residual.result (search rules) (λ d s stands.
-    let own = as_session d s c.args.self.now (λ limit schedule taken. (k : ℕ) × IsDraining d.program d.named limit s.moment k
-    × IsAlong d.program d.named (answered_after d.program d.named limit s.moment) k (g.W.Watch.seen c.args.watch.now)
-    (g.W.Watch.seen c.drain.new.watch) c.drain.new.self.board.now) stands
-    (c.in_err-drain.ensures.err d.program d.named s.moment stands.at) in
+    let own = c.in_err-drain.ensures.err d s.moment stands.at in
     record { events = own.0; each = own.1; saw = own.2.saw })
 
 pub returns : goal.returns
@@ -23,16 +17,12 @@ returns g c =
     carries_counts Drain _ _ c.args.self.now new _ _ c.push_counts.result (omega arith) (λ d s k. refl)
     (λ d s stands.
     let stays = c.drain.ensures.stays in
-    let own = as_session d s c.args.self.now (λ limit schedule taken. (k : ℕ) × IsDrain d.program d.named limit s.moment k
-    × IsAlong d.program d.named (answered_after d.program d.named limit s.moment) k (g.W.Watch.seen c.args.watch.now)
-    (g.W.Watch.seen c.drain.new.watch) new.walk.board.now) stands
-    (c.in_ok-drain.ensures.ok d.program d.named s.moment stands.at) in
+    let own = c.in_ok-drain.ensures.ok d s.moment stands.at in
     record {
       events = own.0;
       makes = own.1;
       stands = record {
         schedule = ap (λ (x : Bor (List Letter)). x.now) stays.schedule ∙ stands.schedule;
-        limit = stays.same.limit ∙ stands.limit;
         at = own.2.at;
         taken = c.drain.ensures.taken ∙ stands.taken;
         breakpoints = stands.breakpoints;

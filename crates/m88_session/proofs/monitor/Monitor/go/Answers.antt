@@ -1,9 +1,9 @@
 -- A walk, and then the line of the counts.
-use Rattle.std.proofs.Common.{arith, refl, rules, subst, ℕ, List, ◌∙◌}
+use Rattle.std.proofs.Common.{arith, refl, sym, rules, subst, ℕ, List, ◌∙◌}
 use Rattle.m88_event.specs.Run.{IsFirst, NotBefore}
 use Rattle.m88_board.specs.Walks.{is_halt}
 use Rattle.m88_session.proofs.Carrying.{carries_counts, carries_none}
-use Rattle.m88_session.proofs.MonitorWalks.{BeforeFrom, as_session, walked_on}
+use Rattle.m88_session.proofs.MonitorWalks.{BeforeFrom, walked_on}
 use Rattle.m88_session.specs.Session.{session_on, stops_on}
 use Rattle.m88_session.specs.declared.monitor.Monitor.{Monitor}
 use Rattle.m88_session.specs.declared.script.MonitorCommand.TheVariants.{Go}
@@ -11,9 +11,8 @@ use Rattle.m88_session.proofs.monitor.Monitor.go.Goals as goal
 
 pub returns-in_err-go_until : goal.returns-in_err-go_until
 returns-in_err-go_until g c = carries_none Go _ _ _ _ _ _ c.from_residual.result (search rules) (λ d s stands.
-    let broke = c.in_err-go_until.ensures.err d.program d.named s.moment stands.at in
-    let made = as_session d s c.args.self.now (BeforeFrom d s (is_halt c.as_slice.result.now) _ _) stands
-    (broke.0, broke.1, broke.2.saw) in
+    let broke = c.in_err-go_until.ensures.err d s.moment (sym stands.schedule) stands.at in
+    let made = subst (BeforeFrom d s (is_halt c.as_slice.result.now) _ _) stands.taken (broke.0, broke.1, broke.2.saw) in
     record {
       events = made.0;
       each = subst (λ (xs : List ℕ). NotBefore (stops_on d s (is_halt xs)) made.0) (c.as_slice.ensures.value ∙ stands.breakpoints) made.1;
@@ -27,7 +26,7 @@ returns g c =
     carries_counts Go _ _ c.args.self.now new _ _ c.push_counts.result (omega arith) (λ d s k. refl)
     (λ d s stands.
     let w = walked_on d s (is_halt c.as_slice.result.now) c.args.self.now new _ _ stands refl c.go_until.ensures.stays
-    (c.in_ok-go_until.ensures.ok d.program d.named s.moment stands.at) in
+    (c.in_ok-go_until.ensures.ok d s.moment (sym stands.schedule) stands.at) in
     record {
       events = w.events;
       makes = subst (λ (xs : List ℕ). IsFirst (stops_on d s (is_halt xs)) w.events)

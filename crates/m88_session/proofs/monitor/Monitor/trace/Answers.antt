@@ -29,7 +29,7 @@ loop-made-preserved g c = record {
         along =
             along_next d s k (g.W.Watch.seen c.args.watch.now) (g.W.Watch.seen c.loop-made.watch) (g.W.Watch.seen c.next.new.watch)
             c.loop-made.self new traces.along
-            (c.in_ok-happened.ensures.goes.ok d.program d.named (moment_on d s k) (at_on d s k c.loop-made.self traces.along.stands))
+            (c.in_ok-happened.ensures.goes.ok d (moment_on d s k) (at_on d s k c.loop-made.self traces.along.stands))
             c.next.ensures.goes.takes.stays c.in_ok-happened.ensures.goes.takes.taken refl;
         each = each_next d s (Trace c.args.count) k traces.each
             (wants_more d s c.args.count k c.loop-made-test.true (over ∙ c.if-is_over.false));
@@ -80,7 +80,7 @@ returns-in_err-push_event g c =
     let new : Monitor = record { walk = c.next.new.self; breakpoints = c.loop-made.self.breakpoints } in
     let along = along_next d s k (g.W.Watch.seen c.args.watch.now) (g.W.Watch.seen c.loop-made.watch) (g.W.Watch.seen c.next.new.watch)
     c.loop-made.self new traces.along
-    (c.in_ok-happened.ensures.goes.ok d.program d.named (moment_on d s k) (at_on d s k c.loop-made.self traces.along.stands))
+    (c.in_ok-happened.ensures.goes.ok d (moment_on d s k) (at_on d s k c.loop-made.self traces.along.stands))
     c.next.ensures.goes.takes.stays c.in_ok-happened.ensures.goes.takes.taken refl in
     record {
       events = k + 1;

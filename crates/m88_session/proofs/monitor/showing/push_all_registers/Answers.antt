@@ -6,10 +6,10 @@ use Rattle.m88_session.proofs.monitor.showing.push_all_registers.Goals as goal
 
 pub returns : goal.returns
 unfolding registers_text
-returns c = λ p named m at.
+returns c = λ r m at.
     let old = c.args.text.now.items in
     c.in_ok-push_carry.ensures
     ∙ ap (λ front. front ++ carry_line c.carry.result) c.in_ok-push_registers.ensures
     ∙ append_assoc old (register_lines c.registers_of.result) (carry_line c.carry.result)
-    ∙ ap₂ (λ registers carry. old ++ (register_lines registers ++ carry_line carry)) (c.registers_of.ensures.moment p named m at)
-    (c.carry.ensures.moment p named m at)
+    ∙ ap₂ (λ registers carry. old ++ (register_lines registers ++ carry_line carry)) (c.registers_of.ensures.moment r m at)
+    (c.carry.ensures.moment r m at)

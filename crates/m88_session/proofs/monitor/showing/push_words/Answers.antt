@@ -43,7 +43,7 @@ returns-clause-value c =
 
 pub returns-clause-moment : goal.returns-clause-moment
 unfolding words_text
-returns-clause-moment c = λ p named m at.
+returns-clause-moment c = λ r m at.
     returns-clause-value c
     ∙ ap (λ (bus : ℕ → ℕ). c.args.text.now.items ++ flat_map word_line (words_from bus (word_address c.args.address) c.args.count))
-    (words_seen p named m c.args.board.now at)
+    (words_seen r m c.args.board.now at)

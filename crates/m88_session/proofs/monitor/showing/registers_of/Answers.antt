@@ -20,4 +20,4 @@ returns-clause-value c =
 
 pub returns-clause-moment : goal.returns-clause-moment
 unfolding registers_at
-returns-clause-moment c = λ p named m at. returns-clause-value c ∙ registers_seen p named m c.args.board.now at
+returns-clause-moment c = λ r m at. returns-clause-value c ∙ registers_seen r m c.args.board.now at

@@ -29,7 +29,7 @@ read_there image p a word r of aligned small there found only =
     ∙ sym (ap (λ (o : Option (List ℕ)). fetched_instruction o (p.instruction a)) bytes)
 
 pub returns-clause-value : goal.returns-clause-value
-returns-clause-value c = λ p named m at.
+returns-clause-value c = λ r m at.
     c.ok.ensures.value
-    ∙ read_there c.args.board.now.memory.image p c.args.address c.in_ok-word.word c.decode.result at.image c.requires (omega arith)
+    ∙ read_there c.args.board.now.memory.image r.program c.args.address c.in_ok-word.word c.decode.result at.image c.requires (omega arith)
     c.in_ok-word.ensures.value c.decode.ensures.found c.decode.ensures.only

@@ -1,5 +1,5 @@
 -- One context after the other.
-use Rattle.std.proofs.Common.{rules, [], ◌∷◌, ◌++◌, ◌≡◌, ◌∙◌, arith, length, refl, sym, subst, Some, None, slice_get, false}
+use Rattle.std.proofs.Common.{rules, List, [], ◌∷◌, ◌++◌, ◌≡◌, ◌∙◌, arith, length, refl, sym, subst, Some, None, slice_get, false}
 use Rattle.std.proofs.lemmas.Option.{slice_get_read}
 use Rattle.m88_base.specs.Image.{ProgramImage}
 use Rattle.m88_isa.specs.ImageProgram.{IsProgramOf}
