@@ -14,13 +14,13 @@ use Rattle.m88_handler.specs.declared.remark.Remark.TheVariants as remark
 use Rattle.m88_isa.specs.Bus.{changed_words}
 use Rattle.m88_mem.specs.DataBus.{absent_of, bus_of, image_bus}
 use Rattle.m88_report.specs.Report.{named_word, word_line}
-use Rattle.m88_serving.specs.Served.{slots_text}
-use Rattle.m88_entries.specs.Left.{cause_text, left_lines, left_page, left_pages, left_register, left_registers, remark_text}
+use Rattle.m88_serving.specs.Served.{awaited_text, registers_below, slots_text}
+use Rattle.m88_entries.specs.Left.{cause_text, is_shown, left_lines, left_page, left_pages, remark_text}
 
-pub registers_next : (ssbr : ℕ) (before after : List ℕ) (r : ℕ)
-    → left_registers ssbr before after (r + 1) ≡ left_registers ssbr before after r ++ left_register ssbr before after r
-unfolding left_registers
-registers_next ssbr before after r = rw add-one refl
+pub registers_next : (shown : ℕ → Bool) (values : List ℕ) (r : ℕ)
+    → registers_below shown values (r + 1) ≡ registers_below shown values r ++ awaited_text shown values r
+unfolding registers_below
+registers_next shown values r = rw add-one refl
 
 pub pages_next : (absent : ℕ → Bool) (page : ℕ) → left_pages absent (page + 1) ≡ left_pages absent page ++ left_page absent page
 unfolding left_pages
@@ -51,15 +51,15 @@ all_left t u v w x registers words pages status slots p q r s =
 -- all that a handler left
 pub left_written : (t u v w x : List ℕ) (f : Faulted) (entered : Handling) (h : Handler) (fault : Record) (found : List ℕ) (words : List (ℕ × ℕ))
     → f.fault ≡ fault → f.bus ≡ image_bus (base_of h) → found ≡ entered.regs → words ≡ changed_words (image_bus (base_of h)) (bus_of h.user)
-    → u ≡ t ++ left_registers fault.ssbr found h.regs 32 → v ≡ u ++ flat_map word_line words → w ≡ v ++ left_pages (absent_of h.user) page_count
+    → u ≡ t ++ registers_below (is_shown fault.ssbr found h.regs) h.regs 32 → v ≡ u ++ flat_map word_line words → w ≡ v ++ left_pages (absent_of h.user) page_count
     → x ≡ w ++ named_word (codes "epsr") h.control.epsr ++ line_end ++ slots_text h.control.ssbr h.control.snip h.control.sfip
     → x ≡ t ++ left_lines f entered (handling_of h)
 unfolding left_lines handling_of
 left_written t u v w x f entered h fault found words is_fault is_bus is_found is_words p q r s =
-    all_left t u v w x (left_registers f.fault.ssbr entered.regs h.regs 32) (flat_map word_line (changed_words f.bus (bus_of h.user)))
+    all_left t u v w x (registers_below (is_shown f.fault.ssbr entered.regs h.regs) h.regs 32) (flat_map word_line (changed_words f.bus (bus_of h.user)))
     (left_pages (absent_of h.user) page_count) (named_word (codes "epsr") h.control.epsr)
     (slots_text h.control.ssbr h.control.snip h.control.sfip)
-    (p ∙ ap (λ (k : Record). t ++ left_registers k.ssbr found h.regs 32) (sym is_fault)
-    ∙ ap (λ (k : List ℕ). t ++ left_registers f.fault.ssbr k h.regs 32) is_found)
+    (p ∙ ap (λ (k : Record). t ++ registers_below (is_shown k.ssbr found h.regs) h.regs 32) (sym is_fault)
+    ∙ ap (λ (k : List ℕ). t ++ registers_below (is_shown f.fault.ssbr k h.regs) h.regs 32) is_found)
     (q ∙ ap (λ (k : List (ℕ × ℕ)). u ++ flat_map word_line k) (is_words ∙ ap (λ (k : ℕ → ℕ). changed_words k (bus_of h.user)) (sym is_bus)))
     r s

@@ -7,7 +7,7 @@ use Rattle.m88_base.specs.RegisterSet.{registers_in}
 use Rattle.m88_isa.specs.Bus.{changed_words}
 use Rattle.m88_isa.specs.Machine.{Program}
 use Rattle.m88_report.specs.Report.{count_line, named_word, out_text, word_line}
-use Rattle.m88_serving.specs.Served.{slots_text}
+use Rattle.m88_serving.specs.Served.{registers_below, slots_text}
 use Rattle.m88_serving.specs.Serving.{named_bus}
 use Rattle.m88_handler.specs.Entering.{Faulted, entering, faulted}
 use Rattle.m88_handler.specs.Judging.{came_of, judged}
@@ -59,17 +59,6 @@ fault_of t = faulted t.fault.fault t.given (named_bus t.fault.words)
 abbrev pub is_shown : ℕ → List ℕ → List ℕ → ℕ → Bool
 is_shown ssbr before after r = registers_in ssbr r || not (slice_index before r == slice_index after r)
 
--- its line
-abbrev pub left_register : ℕ → List ℕ → List ℕ → ℕ → List ℕ
-left_register ssbr before after r =
-    if is_shown ssbr before after r then named_word (codes "r" ++ decimal r) (slice_index after r) ++ line_end else []
-
--- the lines of the registers below a number
-unfoldable pub left_registers : ℕ → List ℕ → List ℕ → ℕ → List ℕ
-left_registers ssbr before after zero = []
-left_registers ssbr before after (suc r) =
-    left_registers ssbr before after r ++ left_register ssbr before after r
-
 -- the line of a page that is present, by its first address
 abbrev pub left_page : (ℕ → Bool) → ℕ → List ℕ
 left_page absent page = if absent page then [] else named_word (codes "page") (page * page_bytes) ++ line_end
@@ -82,7 +71,7 @@ left_pages absent (suc page) = left_pages absent page ++ left_page absent page
 -- what the handler left, as `m88serve` writes it, with the pages and the status: `found` is how it was entered
 unfoldable pub left_lines : Faulted → Handling → Handling → List ℕ
 left_lines f found left =
-    left_registers f.fault.ssbr found.regs left.regs 32
+    registers_below (is_shown f.fault.ssbr found.regs left.regs) left.regs 32
     ++ flat_map word_line (changed_words f.bus left.user)
     ++ left_pages left.absent page_count
     ++ named_word (codes "epsr") left.control.epsr ++ line_end

@@ -1,22 +1,21 @@
 //! The text of an entry: how it went, and what the handler left.
-ghost use Rattle.std.specs.Prelude.{◌≡◌, ◌<◌, ◌≤◌, ◌++◌, IfOk, OnOk, Some, codes, slice_get};
+ghost use Rattle.std.specs.Prelude.{◌≡◌, ◌<◌, ◌++◌, IfOk, OnOk, codes};
 ghost use Rattle.m88_base.specs.Lines.{line_end};
 ghost use Rattle.m88_base.specs.Pages.{IsPage, page_count};
 ghost use Rattle.m88_base.specs.RegisterSet.{registers_in};
-ghost use Rattle.m88_ctrl.specs.ControlRegisters.{by_number};
 ghost use Rattle.m88_handler.specs.Entering.{Faulted};
 ghost use Rattle.m88_handler.specs.Handled.{base_of, handling_of};
 ghost use Rattle.m88_handler.specs.Machine.{Handling};
 ghost use Rattle.m88_mem.specs.DataBus.{absent_of, image_bus};
 ghost use Rattle.m88_report.specs.Report.{named_word, out_text};
-ghost use Rattle.m88_serving.specs.Served.{slots_text};
-ghost use Rattle.m88_entries.specs.Left.{entry_text, head_lines, is_shown, left_lines, left_page, left_pages, left_register, left_registers};
+ghost use Rattle.m88_serving.specs.Served.{awaited_text, registers_below, slots_text};
+ghost use Rattle.m88_entries.specs.Left.{entry_text, head_lines, is_shown, left_lines, left_page, left_pages};
 
 use crate::text::push_remark;
 use m88_base::{NoMemory, PAGE_BYTES, PAGE_COUNT, push_decimal, push_hex2, push_hex8};
 use m88_ctrl::{Control, cr};
 use m88_event::Record;
-use m88_handler::{Entry, Handler, Remark};
+use m88_handler::{Entry, Handler, Remark, word_of};
 use m88_mem::Memory;
 use m88_report::{push_count, push_named, push_words};
 use m88_serving::push_slots;
@@ -99,19 +98,8 @@ fn push_controls(text: &mut Vec<u8>, control: &Control) -> Result<(), AllocError
     )
 }
 
-/// The word of a control register that there is.
-fn word_of(control: &Control, number: u8) -> u32
-    requires { number ≤ 20 }
-    ensures { slice_get (by_number control.now) number ≡ Some result }
-{
-    let Some(word) = control.ldcr(number) else {
-        unreachable!();
-    };
-    word
-}
-
 /// Appends a line for each register that was waited for, or isn't as it was found, in order.
-#[tactic(auto, unfolding(crate::specs::Left::left_registers))]
+#[tactic(auto, unfolding(m88_serving::specs::Served::registers_below))]
 fn push_registers(
     text: &mut Vec<u8>,
     ssbr: u32,
@@ -119,7 +107,7 @@ fn push_registers(
     left: &[u32; 32],
 ) -> Result<(), AllocError>
     ensures { OnOk result (text.new.items
-        ≡ text.old.items ++ left_registers ssbr found.now left.now 32) }
+        ≡ text.old.items ++ registers_below (is_shown ssbr found.now left.now) left.now 32) }
 {
     for r in 0..32 {
         push_register(text, ssbr, found, left, r)?;
@@ -137,7 +125,7 @@ fn push_register(
 ) -> Result<(), AllocError>
     requires { r < 32 }
     ensures { OnOk result (text.new.items
-        ≡ text.old.items ++ left_register ssbr found.now left.now r) }
+        ≡ text.old.items ++ awaited_text (is_shown ssbr found.now left.now) left.now r) }
 {
     if is_shown(ssbr, found, left, r) {
         text.push(b'r')?;
@@ -180,7 +168,8 @@ fn push_pages(text: &mut Vec<u8>, memory: &Memory) -> Result<(), AllocError>
 /// Appends the line of a page, if it is present.
 fn push_page(text: &mut Vec<u8>, memory: &Memory, page: u32) -> Result<(), AllocError>
     requires { IsPage page }
-    ensures { OnOk result (text.new.items ≡ text.old.items ++ left_page (absent_of memory.now) page) }
+    ensures { OnOk result (text.new.items
+        ≡ text.old.items ++ left_page (absent_of memory.now) page) }
 {
     if !memory.is_absent(page) {
         push_named(text, b"page", page * PAGE_BYTES)?;

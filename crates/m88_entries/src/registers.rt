@@ -25,9 +25,11 @@ pub(crate) fn registers_told(
     first: u64,
 ) -> Result<Vec<(u32, u32)>, UnreadLine>
     requires { first + length lines.now < 2 ^ 64 }
-    ensures ok { IfOk result (λ words. registers_told first (lines_of lines.now) ≡ Ok words.items) }
+    ensures ok { IfOk result (λ words.
+        registers_told first (lines_of lines.now) ≡ Ok words.items) }
     ensures form { IfErr result (IsUnreadLine (registers_told first (lines_of lines.now))) }
-    ensures each { IfOk result (λ words. All (λ word. (0 < word.0) × (word.0 < 32)) words.items) }
+    ensures each { IfOk result (λ words.
+        All (λ word. (0 < word.0) × (word.0 < 32)) words.items) }
 {
     let mut words = Vec::new(alloc);
     let mut rest = lines;

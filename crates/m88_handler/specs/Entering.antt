@@ -1,9 +1,9 @@
--- How a data fault is taken by a handler, what the monitor's own service would make of it, and why a handler can't return
--- ("Exception Processing": data access exception; return from an exception).
+-- How a data fault is taken by a handler, what the monitor's own service would make of it, and why a handler can't
+-- return ("Exception Processing": data access exception; return from an exception).
 use Rattle.std.specs.Prelude.{ℕ, Bool, false, not, List, [], ◌∷◌, Option, Some, None, ◌==◌, if◌then◌else◌}
-use Rattle.std.specs.Int.{bit_at}
 use Rattle.m88_base.specs.Pages.{every_page}
 use Rattle.m88_base.specs.Reg.{with_register}
+use Rattle.m88_base.specs.Slot.{slot_of}
 use Rattle.m88_ctrl.specs.ControlRegisters.{ControlRegisters, at_start, handler_of}
 use Rattle.m88_event.specs.declared.record.Record.{Record}
 use Rattle.m88_isa.specs.Address.{after_bytes}
@@ -58,10 +58,6 @@ entering p f = record {
   absent = every_page;
 }
 
--- V of a slot: its instruction is carried out
-abbrev pub is_valid_slot : ℕ → Bool
-is_valid_slot word = bit_at word 1 == 1
-
 -- why a return can't be made, if it can't: the shadow registers aren't frozen, the status of the program is none, a
 -- register would wait for ever, or FIP would be passed over
 abbrev pub return_fault : ControlRegisters → Option Cause
@@ -69,5 +65,5 @@ return_fault c =
     if not (is_frozen c) then Some Sfrz
     else if not (is_status c.epsr) then Some Epsr
     else if not (c.ssbr == 0) then Some Ssbr
-    else if not (is_valid_slot c.sfip) then Some Sfip
+    else if not (slot_of c.sfip).v then Some Sfip
     else None

@@ -3,12 +3,13 @@
 use Rattle.std.specs.Prelude.{ℕ, Bool, not, List, Option, Some, None, ◌≡◌, ◌↔◌, ◌<◌, ◌≤◌, ◌+◌, ◌*◌, ◌^◌, ◌==◌, option_map, slice_index, if◌then◌else◌}
 use Rattle.std.specs.Option.{option_or}
 use Rattle.m88_base.specs.Pages.{page_bytes, page_count}
+use Rattle.m88_base.specs.Slot.{slot_of}
 use Rattle.m88_isa.specs.Address.{word_address}
 use Rattle.m88_isa.specs.Held.{first_from}
 use Rattle.m88_isa.specs.Machine.{Program}
 use Rattle.m88_ctrl.specs.ControlRegisters.{ControlRegisters}
 use Rattle.m88_monitor.specs.Serving.{Serving, after_service}
-use Rattle.m88_handler.specs.Entering.{Faulted, entering, is_valid_slot, return_fault, serving_of_fault}
+use Rattle.m88_handler.specs.Entering.{Faulted, entering, return_fault, serving_of_fault}
 use Rattle.m88_handler.specs.Handled.{handling_of}
 use Rattle.m88_handler.specs.Machine.{Handling, handled_by, presence}
 use Rattle.m88_handler.specs.declared.cause.Cause.{Cause}
@@ -63,7 +64,7 @@ page_difference left wanted =
 -- the next instruction behind a return, as a word without E: 0 where it is passed over, and then its address counts for
 -- nothing
 abbrev pub next_seen : ControlRegisters → ℕ
-next_seen c = if is_valid_slot c.snip then word_address c.snip + 2 else 0
+next_seen c = if (slot_of c.snip).v then word_address c.snip + 2 else 0
 
 -- the one that follows it, as a word without E
 abbrev pub following_seen : ControlRegisters → ℕ

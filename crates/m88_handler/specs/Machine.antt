@@ -23,7 +23,7 @@ use Rattle.m88_isa.specs.declared.planned.Plan.{Plan}
 use Rattle.m88_isa.specs.declared.planned.Plan.TheVariants as plan
 use Rattle.m88_mem.specs.Marks.{with_page}
 use Rattle.m88_handler.specs.declared.act.Act.{Act}
-use Rattle.m88_handler.specs.declared.act.Act.TheVariants.{Faults, Works, Reaches, Reads, Writes, Swaps, Returns}
+use Rattle.m88_handler.specs.declared.act.Act.TheVariants.{Raises, Works, Reaches, Reads, Writes, Swaps, Returns}
 use Rattle.m88_handler.specs.declared.cause.Cause.TheVariants.{Vector, Psr, Steps}
 use Rattle.m88_handler.specs.declared.cause.Course.{Course}
 use Rattle.m88_handler.specs.declared.cause.Course.TheVariants as course
@@ -113,14 +113,14 @@ plain i = i
 
 -- what a plan does, in the program's space or in the handler's
 abbrev pub memory_act : Bool → Plan → Act
-memory_act usr (plan.Raise vector) = Faults vector
-memory_act usr (plan.Trap vector) = Faults vector
+memory_act usr (plan.Raise vector) = Raises vector
+memory_act usr (plan.Trap vector) = Raises vector
 memory_act usr (plan.Go effect) = if usr then Reaches effect else Works effect
 
 -- a trap, which raises its vector where it is taken, whichever that is
 abbrev pub trap_act : ℕ → Plan → Act
-trap_act vector (plan.Raise _) = Faults vector
-trap_act vector (plan.Trap _) = Faults vector
+trap_act vector (plan.Raise _) = Raises vector
+trap_act vector (plan.Trap _) = Raises vector
 trap_act vector (plan.Go effect) = Works effect
 
 -- a control instruction; its float form is the first unit's, as in a program
@@ -146,21 +146,21 @@ is_misplaced i pc next = is_flow i && not (next == after_bytes pc 4)
 -- the same at its place: a change of flow in a taken delay slot is unimplemented
 abbrev pub act_in_place : Instr → List ℕ → Bool → Bool → ℕ → ℕ → Act
 act_in_place i regs carry mxm pc next =
-    if is_misplaced i pc next then Faults unimplemented else act_by i (plan_of (plain i) regs carry mxm pc next)
+    if is_misplaced i pc next then Raises unimplemented else act_by i (plan_of (plain i) regs carry mxm pc next)
 
 -- the instruction of a word that was fetched, or the vector where it can't be fetched or is none
-abbrev pub found_of : Option (List ℕ) → Option Instr → Result Instr ℕ
-found_of None i = Err instruction_access
-found_of (Some word) None = Err unimplemented
-found_of (Some word) (Some i) = Ok i
+abbrev pub fetched_of : Option (List ℕ) → Option Instr → Result Instr ℕ
+fetched_of None i = Err instruction_access
+fetched_of (Some word) None = Err unimplemented
+fetched_of (Some word) (Some i) = Ok i
 
 -- the instruction at an address
-abbrev pub found_at : Program → ℕ → Result Instr ℕ
-found_at s a = found_of (four_bytes s.byte a) (s.instruction a)
+abbrev pub fetched_at : Program → ℕ → Result Instr ℕ
+fetched_at s a = fetched_of (four_bytes s.byte a) (s.instruction a)
 
 -- what it does
 abbrev pub act_of : Result Instr ℕ → Handling → Act
-act_of (Err vector) h = Faults vector
+act_of (Err vector) h = Raises vector
 act_of (Ok i) h = act_in_place i h.regs (carry_of h.control) (mxm_of h.control) h.pc h.next
 
 -- one instruction is done, behind which these follow
@@ -263,19 +263,20 @@ reads_control (Some word) d h = (course.GoesOn, stepped_on (record h { regs = wi
 
 -- what comes of an act
 abbrev pub done_by : Act → Handling → Course × Handling
-done_by (Faults vector) h = failed_by vector h
+done_by (Raises vector) h = failed_by vector h
 done_by (Works effect) h = on_or_stopped (changed_by after_own_access effect h)
 done_by (Reaches effect) h =
     if is_lacking h.absent (listed effect.accesses) then failed_by data_access h
     else (course.GoesOn, changed_by after_user_access effect h)
 done_by (Reads d cr) h = reads_control (slice_get (by_number h.control) cr) d h
 done_by (Writes s1 cr) h = writes_control cr (register h.regs s1) no_register 0 h
-done_by (Swaps d s1 cr) h = writes_control cr (register h.regs s1) d (unwrap_or (slice_get (by_number h.control) cr) 0) h
+done_by (Swaps d s1 cr) h =
+    writes_control cr (register h.regs s1) d (unwrap_or (slice_get (by_number h.control) cr) 0) h
 done_by Returns h = (course.Returns, record h { steps = h.steps + 1 })
 
 -- what comes of the next instruction of a handler
 abbrev pub done_next : Program → Handling → Course × Handling
-done_next s h = done_by (act_of (found_at s h.pc) h) h
+done_next s h = done_by (act_of (fetched_at s h.pc) h) h
 
 -- what comes of a handler of which this has come, by up to so many instructions more
 unfoldable pub done_behind : Program → ℕ → Course × Handling → Course × Handling

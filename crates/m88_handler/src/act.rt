@@ -11,7 +11,7 @@ use m88_isa::{Effect, Instr, Plan, UNIMPLEMENTED, is_flow, plan};
 #[derive(Clone, Copy)]
 pub enum Act {
     /// It raises a vector.
-    Faults(u16),
+    Raises(u16),
     /// It makes changes, its accesses in the supervisor's space.
     Works(Effect),
     /// The same, with its accesses in the program's space.
@@ -43,7 +43,7 @@ pub(crate) fn act_at(
     ensures fits { CanBeDone result }
 {
     if is_misplaced(instr, pc, next) {
-        return Act::Faults(UNIMPLEMENTED);
+        return Act::Raises(UNIMPLEMENTED);
     }
     act_by(instr, plan(&plain(instr), regs, carry, mxm, pc, next))
 }
@@ -101,7 +101,7 @@ fn memory_act(usr: bool, plan: Plan) -> Act
     ensures { result ≡ memory_act usr plan }
 {
     match plan {
-        Plan::Raise(vector) | Plan::Trap(vector) => Act::Faults(vector),
+        Plan::Raise(vector) | Plan::Trap(vector) => Act::Raises(vector),
         Plan::Go(effect) => {
             if usr {
                 Act::Reaches(effect)
@@ -118,7 +118,7 @@ fn trap_act(vector: u16, plan: Plan) -> Act
 {
     match plan {
         Plan::Go(effect) => Act::Works(effect),
-        Plan::Raise(_) | Plan::Trap(_) => Act::Faults(vector),
+        Plan::Raise(_) | Plan::Trap(_) => Act::Raises(vector),
     }
 }
 

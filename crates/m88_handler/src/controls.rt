@@ -2,8 +2,8 @@
 #![tactic(auto, unfolding(crate::specs::Machine::with_number))]
 
 ghost use Rattle.std.specs.Prelude.{◌≡◌, ◌≤◌, ◌<◌, Some, slice_get, slice_set};
+ghost use Rattle.m88_base.specs.Slot.{slot_of};
 ghost use Rattle.m88_ctrl.specs.ControlRegisters.{by_number, kept_of};
-ghost use Rattle.m88_handler.specs.Entering.{is_valid_slot};
 ghost use Rattle.m88_handler.specs.Machine.{is_frozen, is_shadow, is_unwritable, may_follow, unless_frozen, with_number};
 
 use m88_ctrl::{Control, cr};
@@ -17,13 +17,13 @@ pub(crate) fn is_frozen(control: &Control) -> bool
 
 /// V of a slot: its instruction is carried out.
 pub(crate) fn is_valid_slot(word: u32) -> bool
-    ensures { result ≡ is_valid_slot word }
+    ensures { result ≡ (slot_of word).v }
 {
     word / 2 % 2 == 1
 }
 
-/// The word of a control register that there is.
-pub(crate) fn word_of(control: &Control, number: u8) -> u32
+/// The word of a control register, 0 to 20.
+pub fn word_of(control: &Control, number: u8) -> u32
     requires { number ≤ 20 }
     ensures { slice_get (by_number control.now) number ≡ Some result }
 {
@@ -88,7 +88,8 @@ fn clear_shadow(control: &mut Control)
 fn put(control: &mut Control, number: u8, word: u32)
     requires writable { 0 < number }
     requires there { number ≤ 20 }
-    ensures { by_number control.new ≡ slice_set (by_number control.old) number (kept_of number word) }
+    ensures { by_number control.new
+        ≡ slice_set (by_number control.old) number (kept_of number word) }
 {
     if !control.stcr(number, word) {
         unreachable!();

@@ -40,9 +40,9 @@ pub struct Entry {
 /// The byte address at which the handler of data faults begins: VBR is 0.
 const ENTRY: u32 = 8 * DATA_ACCESS as u32;
 
-/// Enters a handler, whose code is an image, by a data fault with a record and these registers, r0 to r31, over an image
-/// of the words of data memory, where every page is absent; carries out up to so many of its instructions, and judges
-/// what it left.
+/// Enters a handler, whose code is an image, by a data fault with a record and these registers, r0 to r31, over an
+/// image of the words of data memory, where every page is absent. It carries out up to so many of the handler's
+/// instructions, and judges what it left.
 pub fn enter(
     alloc: Global,
     code: &Image,
@@ -99,7 +99,6 @@ fn entered(
 }
 
 /// The registers as a handler finds them: one that waits reads as 0.
-
 fn found(triples: &[Triple; 3], given: &[u32; 32]) -> [u32; 32]
     ensures { result ≡ found (accesses_in triples.now) given.now }
 {
@@ -148,7 +147,7 @@ fn remark_on_return(left: &Handler, wanted: &Wanted) -> Remark
         return Remark::Fails(cause, left.pc);
     }
     match first_difference(left, wanted) {
-        Some(found) => Remark::Differs(found),
+        Some(difference) => Remark::Differs(difference),
         None => Remark::Kept,
     }
 }

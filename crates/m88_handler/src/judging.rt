@@ -49,14 +49,14 @@ pub(crate) fn first_difference(left: &Handler, wanted: &Wanted) -> Option<Differ
     requires { left.now.user.image ≡ wanted.now.memory.image }
     ensures { result ≡ difference (left_by (handling_of left.now)) (wanted_of wanted.now) }
 {
-    if let Some(found) = register_difference(&left.regs, wanted.regs.numbers()) {
-        return Some(found);
+    if let Some(difference) = register_difference(&left.regs, wanted.regs.numbers()) {
+        return Some(difference);
     }
-    if let Some(found) = word_difference(&left.user, &wanted.memory) {
-        return Some(found);
+    if let Some(difference) = word_difference(&left.user, &wanted.memory) {
+        return Some(difference);
     }
-    if let Some(found) = page_difference(&left.user, &wanted.memory) {
-        return Some(found);
+    if let Some(difference) = page_difference(&left.user, &wanted.memory) {
+        return Some(difference);
     }
     control_difference(&left.control, &wanted.control)
 }
@@ -157,7 +157,8 @@ fn word_difference(left: &Memory, wanted: &Memory) -> Option<Difference>
 /// The place of the first word that differs, among all words.
 fn word_that_differs(left: &Memory, wanted: &Memory) -> Option<u32>
     requires { left.now.image ≡ wanted.now.image }
-    ensures place { result ≡ first_from 0 (2 ^ 30) (word_differs (bus_of left.now) (bus_of wanted.now)) }
+    ensures place { result ≡ first_from 0 (2 ^ 30)
+        (word_differs (bus_of left.now) (bus_of wanted.now)) }
     ensures within { IfSome result (λ place. place < 2 ^ 30) }
 {
     for page in 0..PAGE_COUNT as u32 {

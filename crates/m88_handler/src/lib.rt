@@ -21,6 +21,7 @@ mod serving;
 mod entering;
 
 pub use cause::{Cause, Course};
+pub use controls::word_of;
 pub use entering::{Entry, enter};
 pub use handler::Handler;
 pub use judging::{Difference, Place};

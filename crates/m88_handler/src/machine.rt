@@ -7,7 +7,7 @@ ghost use Rattle.m88_isa.specs.ImageProgram.{IsProgramOf};
 ghost use Rattle.m88_isa.specs.Instr.{IsValid};
 ghost use Rattle.m88_isa.specs.Machine.{Program};
 ghost use Rattle.m88_handler.specs.Handled.{handling_of, code_of};
-ghost use Rattle.m88_handler.specs.Machine.{act_of, done_by, done_next, found_at, handled_by, stepped_on, stepped_to, with_change, writes_control};
+ghost use Rattle.m88_handler.specs.Machine.{act_of, done_by, done_next, fetched_at, handled_by, stepped_on, stepped_to, with_change, writes_control};
 ghost use Rattle.m88_handler.specs.declared.act.Act.TheVariants.{Reaches, Reads, Works};
 ghost use Rattle.m88_handler.specs.Inside.Steps.{CanBeDone, CanStep, HasStepped, IsMakable, KeepsImages, StandsAtWords};
 
@@ -55,7 +55,7 @@ impl Handler {
     fn next_act(&mut self) -> Act
         requires { CanStep self.old }
         ensures act { (p : Program) → IsProgramOf (code_of self.old) p
-            → result ≡ act_of (found_at p self.old.pc) (handling_of self.old) }
+            → result ≡ act_of (fetched_at p self.old.pc) (handling_of self.old) }
         ensures fits { CanBeDone result }
         ensures stays { self.new ≡ self.old }
     {
@@ -68,7 +68,7 @@ impl Handler {
                 self.pc,
                 self.next,
             ),
-            Err(vector) => Act::Faults(vector),
+            Err(vector) => Act::Raises(vector),
         }
     }
 
@@ -81,7 +81,7 @@ impl Handler {
         ensures stepped { OnOk result (HasStepped self.old self.new) }
     {
         match act {
-            Act::Faults(vector) => Ok(Course::Fails(Cause::Vector(vector))),
+            Act::Raises(vector) => Ok(Course::Fails(Cause::Vector(vector))),
             Act::Works(effect) => self.work(&effect),
             Act::Reaches(effect) => self.reach(&effect),
             Act::Reads(d, number) => Ok(self.read_control(d, number)),
@@ -159,7 +159,8 @@ impl Handler {
     /// A register takes the word of a control register, if there is one.
     fn read_control(&mut self, d: Reg, number: u8) -> Course
         requires stands { CanStep self.old }
-        ensures course { (result, handling_of self.new) ≡ done_by (Reads d number) (handling_of self.old) }
+        ensures course { (result, handling_of self.new)
+            ≡ done_by (Reads d number) (handling_of self.old) }
         ensures stepped { HasStepped self.old self.new }
     {
         let Some(word) = self.control.ldcr(number) else {
@@ -204,7 +205,7 @@ impl Handler {
 /// where there is none.
 fn instruction_at(own: &mut Memory, addr: u32) -> Result<Instr, u16>
     requires { addr % 4 ≡ 0 }
-    ensures found { (p : Program) → IsProgramOf own.old.image p → result ≡ found_at p addr }
+    ensures found { (p : Program) → IsProgramOf own.old.image p → result ≡ fetched_at p addr }
     ensures valid { IfOk result IsValid }
     ensures stays { own.new ≡ own.old }
 {

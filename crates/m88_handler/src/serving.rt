@@ -27,8 +27,8 @@ pub(crate) struct Wanted {
     pub memory: Memory,
 }
 
-/// What the service leaves of a data fault with a record and these registers, over an image of the words of data memory,
-/// where every page is absent.
+/// What the service leaves of a data fault with a record and these registers, over an image of the words of data
+/// memory, where every page is absent.
 pub(crate) fn service_of(
     alloc: Global,
     fault: &Record,

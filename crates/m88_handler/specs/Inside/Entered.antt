@@ -9,7 +9,8 @@ use Rattle.m88_handler.specs.declared.handler.Handler.{Handler}
 
 -- the registers behind a transaction: that of a valid load reads as 0
 unfoldable pub found_behind : Triple → List ℕ → List ℕ
-found_behind t regs = if is_valid_triple t && not (access_in t).write then with_register (access_in t).reg 0 regs else regs
+found_behind t regs =
+    if is_valid_triple t && not (access_in t).write then with_register (access_in t).reg 0 regs else regs
 
 -- a handler stands at its entry, over these images
 pub record IsEntered (image words : ProgramImage) (h : Handler) : Type 0 where
