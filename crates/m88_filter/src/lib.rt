@@ -10,5 +10,5 @@ mod seen;
 
 pub use filter::{Filter, run, tell_refusal, tell_seen};
 pub use keeping::{Keeping, Showing};
-pub use refusal::{Marked, put_shown};
+pub use refusal::{Marked, put_quoted, put_shown};
 pub use seen::{Seen, Wanted};

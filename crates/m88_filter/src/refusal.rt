@@ -93,3 +93,14 @@ pub fn put_shown<W: fmt::Write>(f: &mut fmt::Formatter<W>, bytes: &[u8]) -> fmt:
     }
     Ok(())
 }
+
+/// How many bytes of a quoted word are shown.
+const QUOTED: usize = 40;
+
+/// A word in quotes as a terminal can show it; the front of a long one.
+pub fn put_quoted<W: fmt::Write>(f: &mut fmt::Formatter<W>, word: &str) -> fmt::Result {
+    let bytes = word.as_bytes();
+    f.write_str("'")?;
+    put_shown(f, &bytes[..bytes.len().min(QUOTED)])?;
+    f.write_str(if bytes.len() > QUOTED { "..'" } else { "'" })
+}
