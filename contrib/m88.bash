@@ -26,13 +26,15 @@ _m88() {
 complete -o default -F _m88 m88 ./m88
 # m88list and m88serve take no words; bash completes the names of files behind <.
 complete -o default -W "" m88list ./m88list m88serve ./m88serve
-# m88source takes addresses, behind `at` that of a binary first.
+# m88source takes places and what is said of them, behind `at` the address of a binary first.
 _m88_source() {
-  local choices=
+  local choices="fixed vectors"
   case $COMP_CWORD:${COMP_WORDS[1]} in
-    1:*) choices=at ;;
+    1:*) choices+=" at" ;;
     2:at) choices=0x ;;
+    *:at) choices+=" start" ;;
   esac
+  case ${COMP_WORDS[COMP_CWORD-1]} in fixed|vectors|start) choices=0x ;; esac
   COMPREPLY=($(compgen -W "$choices" -- "${COMP_WORDS[COMP_CWORD]}"))
 }
 complete -o default -F _m88_source m88source ./m88source

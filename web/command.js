@@ -2,7 +2,7 @@
 // The command and its words, as the programs themselves tell them in their usage: a new command appears by itself.
 
 const DEFAULTS = {
-  LIMIT: "1000000", ABSENT: "none", SCHEDULE: "-", mxm: "", FRAMES: "4", NUMBER: "0", COUNT: "20", ADDRESS: "0", "ENTRY..": "",
+  LIMIT: "1000000", ABSENT: "none", SCHEDULE: "-", mxm: "", FRAMES: "4", NUMBER: "0", COUNT: "20", ADDRESS: "0", WORDS: "",
 };
 const command = { forms: [], helps: new Map(), words: { ...DEFAULTS } };
 
@@ -18,7 +18,7 @@ function formsOf(usage) {
 
 // What a usage says of its words: the lines that begin with one.
 function helpsOf(usage) {
-  for (const [text, name] of usage.matchAll(/^(\w+) (?:of \w+ )?(?:is|rounds) .+$/gm)) {
+  for (const [text, name] of usage.matchAll(/^(\w+) (?:of \w+ )?(?:is|are|rounds) .+$/gm)) {
     command.helps.set(name, [command.helps.get(name), text].filter(Boolean).join("\n"));
   }
 }
@@ -28,7 +28,7 @@ const SHORT_HELPS = {
   ABSENT: "pages of data memory that are absent at first; page 5 is from 5000 to 5FFF",
   SCHEDULE: "a letter for each event: i issues, r lets memory answer, e makes every page absent",
   mxm: "misaligned addresses are rounded down", NUMBER: "what the workload is drawn from", COUNT: "how many statements it has",
-  ADDRESS: "where the binary stands", "ENTRY..": "further addresses at which code begins",
+  ADDRESS: "where the binary stands", WORDS: "where code begins besides the start, and which of it stays where it is",
 };
 const PURPOSES = {
   "m88 run": "the report of a run", "m88 exec": "the report of a run of records", "m88 dis": "records as a source",

@@ -2,13 +2,13 @@
 //! file, a pipe or a terminal gave or took is outside every promise, and so is what stands on standard error.
 #![tactic(auto)]
 
-use m88_base::{Status, StdSink, StdSource};
-use m88_filter::{Filter, Keeping, Showing, Wanted, run, tell_refusal, tell_seen};
-use m88_sourcing::m88source;
-use std::process::ExitCode;
+mod usage;
 
-/// The version of this program, which manual page and changelog tell too.
-const VERSION: &str = "1.0.0";
+use crate::usage::Usage;
+use m88_base::{Status, StdSink, StdSource};
+use m88_filter::{Filter, Keeping, Wanted, run, tell_refusal, tell_seen};
+use m88_sourcing::source_input;
+use std::process::ExitCode;
 
 /// The program.
 struct M88Source;
@@ -21,20 +21,20 @@ impl Filter for M88Source {
     fn answer(&self, rt: &HostRuntime, words: &[String]) -> Status {
         let is_binary = words.first().is_some_and(|word| word.as_str() == "at");
         let mut source = Keeping::new(rt.alloc(), StdSource::new(rt.reader()), false);
-        let mut sink = Showing::new(rt.alloc(), StdSink::new(rt.stdout()));
-        let status = m88source(rt.alloc(), words, &mut source, &mut sink);
-        match status {
-            Status::Usage => tell_usage(rt),
+        let mut sink = StdSink::new(rt.stdout());
+        let answer = source_input(rt.alloc(), words, &mut source, &mut sink);
+        match answer.status {
+            Status::Usage => tell_usage(rt, words),
             Status::Done if is_binary => tell_seen(rt, self.name(), source.front(), Wanted::Bytes),
             Status::Refused => {
-                tell_refusal(rt, self.name(), "", sink.front(), None);
+                tell_refusal(rt, self.name(), "", &answer.refused, false);
                 if !is_binary {
                     tell_seen(rt, self.name(), source.front(), Wanted::Records);
                 }
             }
             _ => {}
         }
-        status
+        answer.status
     }
 }
 
@@ -42,11 +42,8 @@ fn main(rt: HostRuntime) -> ExitCode {
     run(&rt, &M88Source)
 }
 
-/// Tells a person which words there are.
-fn tell_usage(rt: &HostRuntime) {
-    let _ = eprintln!(rt;
-        "m88source {VERSION}: it takes addresses, up to 64 at which code begins, and opens no file"
-    );
-    let _ = eprintln!(rt; "usage: m88source [ENTRY..] < RECORDS > SOURCE");
-    let _ = eprintln!(rt; "       m88source at ADDRESS [ENTRY..] < BINARY > SOURCE");
+/// Tells a person what is wrong with words that ask for nothing.
+fn tell_usage(rt: &HostRuntime, words: &[String]) {
+    let usage = Usage::of(rt.alloc(), words);
+    let _ = eprintln!(rt; "{usage}");
 }

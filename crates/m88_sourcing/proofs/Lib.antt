@@ -8,6 +8,9 @@ pub mod OneSource
 pub mod Appending
 pub mod Items
 pub mod WordLines
+pub mod Wording
+pub mod Hinted
+pub mod InTurn
 pub mod Asking
 pub mod Verdicts
 pub mod Outlining
@@ -34,3 +37,4 @@ pub mod Branching
 pub mod Searching
 pub mod Inserted
 pub mod Lengthening
+pub mod Promises

@@ -1,5 +1,5 @@
 -- What is code, what is named by it, and by the entries so far.
-use Rattle.std.proofs.Common.{eqb, ◌≡◌, ◌⊎◌, ◌∙◌, ℕ, ◌+◌, ◌<◌, IsTrue, List, [], ◌∷◌, ◌++◌, ap, arith, get_or, inl, inr, length, map, subst, sym, take}
+use Rattle.std.proofs.Common.{eqb, ◌≡◌, ◌⊎◌, ◌∙◌, ℕ, ◌+◌, ◌<◌, IsTrue, List, [], ◌∷◌, ◌++◌, ap, get_or, inl, inr, length, map, subst, sym, take}
 use Rattle.std.specs.Prelude.{◌↔◌, Contains, None}
 use Rattle.std.specs.Cmp.{nat_cmp_total, unsigned_tied}
 use Rattle.std.specs.List.{dedup}

@@ -1,6 +1,6 @@
 -- The pieces of a source as statements that give their bytes: each label stands in front of its address, each once.
 use Rattle.std.proofs.Common.{◌≡◌, ◌⊎◌, ℕ, ℤ, pos, zero, suc, ◌+◌, ◌*◌, ◌-◌, ◌%◌, ◌<◌, ◌≤◌, ◌^◌, true, inl, inr, List, [], ◌∷◌, ◌++◌, length, take, drop, refl, sym, ap, subst, ◌∙◌, arith, append-nil, codes}
-use Rattle.std.specs.Prelude.{Contains, IsSome, None, Option, Some, map, slice_get, slice_index_or}
+use Rattle.std.specs.Prelude.{IsSome, None, Option, Some, slice_get}
 use Rattle.std.specs.Int.{cast_unsigned, to_be_bytes, w32}
 use Rattle.std.proofs.lemmas.Bool.{cases_lt}
 use Rattle.std.proofs.lemmas.List.{length-drop, length-take-le, take-append-drop}

@@ -1,6 +1,9 @@
 -- What is said of an image beside its bytes.
-use Rattle.std.specs.Prelude.{ℕ, List, [], Contains, map}
+use Rattle.std.specs.Prelude.{ℕ, List, [], Contains, flat_map, map}
 use Rattle.m88_isa.specs.Address.{word_address}
+use Rattle.m88_sourcing.specs.Places.{addresses_of}
+use Rattle.m88_sourcing.specs.declared.hint.Hint.{Hint}
+use Rattle.m88_sourcing.specs.declared.hint.Hint.TheVariants.{Enters, Fixes, Starts}
 use Rattle.m88_sourcing.specs.declared.said.Said.{Said as Kept}
 
 -- the addresses at which code begins besides the start, and those among them whose words stay where they are: the chip, or
@@ -13,9 +16,20 @@ pub record Said : Type 0 where
 abbrev pub told : Kept → Said
 told s = record { entries = s.entries.items; fixed = s.fixed.items }
 
--- where nothing stays
-abbrev pub entering : List ℕ → Said
-entering entries = record { entries = entries; fixed = [] }
+-- the addresses at which code begins by a hint
+abbrev pub entries_in : Hint → List ℕ
+entries_in (Enters places) = addresses_of places
+entries_in (Fixes places) = addresses_of places
+entries_in (Starts at) = []
+
+-- those whose words stay by it
+abbrev pub fixed_in : Hint → List ℕ
+fixed_in (Fixes places) = addresses_of places
+fixed_in hint = []
+
+-- what hints say
+abbrev pub said_of : List Hint → Said
+said_of hints = record { entries = flat_map entries_in hints; fixed = flat_map fixed_in hints }
 
 -- the word at an address stays there
 abbrev pub Stays : Said → ℕ → Type 0

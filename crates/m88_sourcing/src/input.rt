@@ -5,20 +5,24 @@ ghost use Rattle.m88_base.specs.Reading.{ReadsSource, most_input};
 ghost use Rattle.m88_base.specs.Status.{IsOfReading};
 ghost use Rattle.m88_sourcing.specs.Inside.Replies.{IsInputRead};
 
-use crate::request::Request;
+use crate::request::{Binary, Request};
 use m88_base::{Image, ImageFault, NoMemory, Refusal, Source, Status, read_then};
 use m88_srec::read_records;
 use std::alloc::Global;
 
-/// The image of bytes from an address on, which starts there, or their refusal.
-fn binary_image(alloc: Global, at: u32, bytes: &[u8]) -> Result<Result<Image, Refusal>, NoMemory>
+/// The image of the bytes of a binary, or their refusal.
+fn binary_image(
+    alloc: Global,
+    binary: Binary,
+    bytes: &[u8],
+) -> Result<Result<Image, Refusal>, NoMemory>
     requires { length bytes.now ≤ most_input }
-    ensures { IfOk result (IsInputRead (Some at) bytes.now) }
+    ensures { IfOk result (IsInputRead (Some binary) bytes.now) }
 {
     let mut image = Image::new(alloc);
-    match image.add(at, bytes) {
+    match image.add(binary.at, bytes) {
         Ok(()) => {
-            image.set_start(at);
+            image.set_start(binary.start);
             Ok(Ok(image))
         }
         Err(ImageFault::TooLarge) => {
@@ -38,13 +42,13 @@ pub(crate) fn read_input<S: Source>(
 ) -> Result<Result<Image, Refusal>, Status>
     ensures ok { IfOk result (λ input. (bytes : List ℕ)
         × GivesAll (S.left source.old) (S.left source.new) bytes
-        × IsInputRead request.now.at bytes input) }
+        × IsInputRead request.now.binary bytes input) }
     ensures reading { ReadsSource Status.SourceFault Status.TooLong S.left S.calls S.faults
         source.old source.new result }
     ensures status { IfErr result IsOfReading }
 {
-    match request.at {
+    match request.binary {
         None => Ok(read_records(alloc, source)?),
-        Some(at) => read_then(alloc, source, |bytes| binary_image(alloc, at, bytes)),
+        Some(binary) => read_then(alloc, source, |bytes| binary_image(alloc, binary, bytes)),
     }
 }

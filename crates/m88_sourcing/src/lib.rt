@@ -18,11 +18,14 @@ mod naming;
 mod pieces;
 mod source;
 
-// The top call.
+// The top call, and what its words say.
+mod hint;
 mod input;
+mod place;
 mod program;
 mod request;
 
-pub use program::m88source;
+pub use program::{m88source, source_input};
+pub use request::is_request;
 pub use said::Said;
 pub use source::source_text;

@@ -1,7 +1,13 @@
 //! What is said of an image beside its bytes.
-ghost use Rattle.std.specs.Prelude.{◌≡◌, IfOk};
-ghost use Rattle.m88_sourcing.specs.Said.{entering, told};
+ghost use Rattle.std.specs.Prelude.{◌≡◌, ◌++◌, IfOk, List, OnOk};
+ghost use Rattle.m88_base.specs.Words.{texts};
+ghost use Rattle.m88_sourcing.specs.Hints.{AreHints};
+ghost use Rattle.m88_sourcing.specs.Inside.Hinting.{IsWithin};
+ghost use Rattle.m88_sourcing.specs.Said.{entries_in, fixed_in, said_of, told};
+ghost use Rattle.m88_sourcing.specs.declared.hint.Hint.{Hint as Kept};
 
+use crate::hint::{Hint, first_hint};
+use crate::place::push_places;
 use std::alloc::{AllocError, Global};
 
 /// What is said of an image beside its bytes, by addresses whose two low bits don't count.
@@ -13,14 +19,37 @@ pub struct Said {
     pub fixed: Vec<u32>,
 }
 
-/// Where code begins besides the start, and no word stays.
-pub(crate) fn entering(alloc: Global, entries: &[u32]) -> Result<Said, AllocError>
-    ensures { IfOk result (λ said. told said ≡ entering entries.now) }
+/// Adds what a hint says.
+fn add_hint(said: &mut Said, hint: Hint) -> Result<(), AllocError>
+    requires { IsWithin hint }
+    ensures entries { OnOk result
+        (said.new.entries.items ≡ said.old.entries.items ++ entries_in hint) }
+    ensures fixed { OnOk result
+        (said.new.fixed.items ≡ said.old.fixed.items ++ fixed_in hint) }
 {
-    let mut all = Vec::new(alloc);
-    all.extend_from_slice(entries)?;
-    Ok(Said {
-        entries: all,
+    match hint {
+        Hint::Enters(places) => push_places(&mut said.entries, places),
+        Hint::Fixes(places) => {
+            push_places(&mut said.entries, places)?;
+            push_places(&mut said.fixed, places)
+        }
+        Hint::Starts(_) => Ok(()),
+    }
+}
+
+/// What hints say that words say.
+pub(crate) fn said_by(alloc: Global, words: &[String]) -> Result<Said, AllocError>
+    ensures { IfOk result (λ said. (hints : List Kept) → AreHints (texts words.now) hints
+        → told said ≡ said_of hints) }
+{
+    let mut said = Said {
+        entries: Vec::new(alloc),
         fixed: Vec::new(alloc),
-    })
+    };
+    let mut rest = words;
+    while let Some(leading) = first_hint(rest) {
+        add_hint(&mut said, leading.hint)?;
+        rest = leading.rest;
+    }
+    Ok(said)
 }

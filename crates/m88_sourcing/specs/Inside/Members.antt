@@ -1,5 +1,5 @@
 -- Sets of addresses, and what is known of an image before its source is written.
-use Rattle.std.specs.Prelude.{◌≡◌, ◌⊎◌, ◌↔◌, ℕ, Bool, List, Option, None, Some, Contains, IsSome, IsTrue}
+use Rattle.std.specs.Prelude.{◌≡◌, ◌⊎◌, ◌↔◌, ℕ, Bool, Option, None, Some, Contains, IsSome, IsTrue}
 use Rattle.std.specs.FinSet.{contains}
 use Rattle.m88_base.specs.Image.{ProgramImage, byte_at}
 use Rattle.m88_isa.specs.Address.{word_address}

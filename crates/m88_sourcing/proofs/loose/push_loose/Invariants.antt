@@ -1,5 +1,5 @@
 -- The lines of the bytes so far are there, for each image of the outline.
-use Rattle.std.proofs.Common.{◌+◌, ◌-◌, ◌≤◌, ℕ, List, drop, length}
+use Rattle.std.proofs.Common.{◌+◌, ◌-◌, ◌≤◌, drop, length}
 use Rattle.m88_base.specs.Image.{ProgramImage}
 use Rattle.m88_sourcing.specs.Inside.Appended.{FrontAppended}
 use Rattle.m88_sourcing.specs.Inside.Members.{OutlinesImage}

@@ -1,5 +1,5 @@
 -- The lines of the words so far are there.
-use Rattle.std.proofs.Common.{◌+◌, ◌-◌, ◌*◌, ℕ, List, []}
+use Rattle.std.proofs.Common.{◌+◌, ◌-◌, ◌*◌, []}
 use Rattle.m88_sourcing.specs.Inside.Appended.{FrontAppended}
 use Rattle.m88_sourcing.specs.Inside.Members.{OutlinesImage}
 use Rattle.m88_sourcing.specs.Said.{Said}

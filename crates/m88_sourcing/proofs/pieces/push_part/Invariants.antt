@@ -1,5 +1,5 @@
 -- The lines of the bytes so far are there, up to the beginning of a word.
-use Rattle.std.proofs.Common.{◌≡◌, ◌⊎◌, ◌+◌, ◌-◌, ◌%◌, ◌≤◌, ℕ, List, [], drop, length}
+use Rattle.std.proofs.Common.{◌≡◌, ◌⊎◌, ◌+◌, ◌-◌, ◌%◌, ◌≤◌, [], drop, length}
 use Rattle.m88_sourcing.specs.Inside.Appended.{FrontAppended}
 use Rattle.m88_sourcing.specs.Inside.Members.{OutlinesImage}
 use Rattle.m88_sourcing.specs.Said.{Said}

@@ -1,5 +1,5 @@
 -- The lines of the parts so far are there.
-use Rattle.std.proofs.Common.{ℕ, List, [], drop}
+use Rattle.std.proofs.Common.{[], drop}
 use Rattle.m88_base.specs.Image.{parts}
 use Rattle.m88_sourcing.specs.Inside.Appended.{FrontAppended}
 use Rattle.m88_sourcing.specs.Inside.Members.{OutlinesImage}
