@@ -38,6 +38,16 @@ _m88_source() {
   COMPREPLY=($(compgen -W "$choices" -- "${COMP_WORDS[COMP_CWORD]}"))
 }
 complete -o default -F _m88_source m88source ./m88source
+# m88super takes the word `fault`, then the most instructions of a handler.
+_m88_super() {
+  local choices=
+  case $COMP_CWORD:${COMP_WORDS[1]} in
+    1:*) choices=fault ;;
+    2:fault) choices="100 1000 10000000" ;;
+  esac
+  COMPREPLY=($(compgen -W "$choices" -- "${COMP_WORDS[COMP_CWORD]}"))
+}
+complete -o default -F _m88_super m88super ./m88super
 # Of contrib/bench a source or records, then the words of its board; of contrib/session these words; of contrib/own the letters
 # of a shared run; of contrib/many a folder, then what its inputs are. contrib/ticks takes two numbers, contrib/entries the
 # words of `m88 trace`.

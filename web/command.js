@@ -28,7 +28,8 @@ const SHORT_HELPS = {
   ABSENT: "pages of data memory that are absent at first; page 5 is from 5000 to 5FFF",
   SCHEDULE: "a letter for each event: i issues, r lets memory answer, e makes every page absent",
   mxm: "misaligned addresses are rounded down", NUMBER: "what the workload is drawn from", COUNT: "how many statements it has",
-  ADDRESS: "where the binary stands", WORDS: "where code begins besides the start, and which of it stays where it is",
+  ADDRESS: "where the binary stands", STEPS: "the most instructions of the handler",
+  WORDS: "where code begins besides the start, and which of it stays where it is",
 };
 const PURPOSES = {
   "m88 run": "the report of a run", "m88 exec": "the report of a run of records", "m88 dis": "records as a source",
@@ -37,7 +38,7 @@ const PURPOSES = {
   "m88 emu": "a run with software for what the chip leaves out", "m88 page": "a run in a few page frames",
   "m88 trace": "a line for each instruction", "m88 check": "whether a trace is the source's", "m88 soak": "a drawn program",
   m88list: "a listing", m88source: "records as a source to edit", "m88source at": "a binary as a source to edit",
-  m88serve: "what a handler must leave",
+  m88serve: "what a handler must leave", "m88super fault": "a handler of yours, tried on a fault",
 };
 
 const formGiven = () => command.forms.find(({ key }) => key === find("command").value) ?? command.forms[0];
