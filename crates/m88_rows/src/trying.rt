@@ -10,6 +10,7 @@ use m88_cli::m88;
 use m88_listing::m88list;
 use m88_serving::m88serve;
 use m88_sourcing::m88source;
+use m88_supering::m88super;
 use memchr::memmem;
 use std::alloc::Global;
 
@@ -187,6 +188,7 @@ fn answer(
         "m88list" => Ok(m88list(alloc, words, source, sink)),
         "m88serve" => Ok(m88serve(alloc, words, source, sink)),
         "m88source" => Ok(m88source(alloc, words, source, sink)),
+        "m88super" => Ok(m88super(alloc, words, source, sink)),
         _ => bail!("there is no program {program}"),
     }
 }
