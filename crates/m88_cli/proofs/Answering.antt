@@ -8,10 +8,14 @@ use Rattle.m88_base.specs.Reading.{most_input}
 use Rattle.m88_base.specs.Status.{Answers, IsOfReading, WritesNothing}
 use Rattle.m88_base.specs.declared.refused.Refused.{Refused as Told}
 use Rattle.m88_base.specs.declared.status.Status.{Status}
-use Rattle.m88_base.specs.declared.status.Status.TheVariants.{Done, Memory, Refused, SinkFault, SourceFault, TooLong}
+use Rattle.m88_base.specs.declared.status.Status.TheVariants.{Done, Memory, Refused, SinkFault, SourceFault, TooLong, Usage}
 use Rattle.m88_commands.specs.Command.{Command, reads_input}
 use Rattle.m88_commands.specs.Inputs.{left_for}
 use Rattle.m88_commands.specs.Status.{ShowsNothing}
+
+-- words that spell no command are no fault of a source, nor a byte too many
+pub of_words : (Usage ≢ SourceFault) × (Usage ≢ TooLong)
+of_words = (λ e. absurd cc, λ e. absurd cc)
 
 -- want of memory is no fault of a source, nor a byte too many
 pub only_memory : (status : Status) → status ≡ Memory → (status ≢ SourceFault) × (status ≢ TooLong)

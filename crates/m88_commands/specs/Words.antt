@@ -4,6 +4,7 @@ use Rattle.m88_event.specs.Letters.{IsSchedule}
 use Rattle.m88_pager.specs.Paged.{most_frames}
 use Rattle.m88_tasks.specs.Letters.{IsShareSchedule}
 use Rattle.m88_tasks.specs.declared.letter.ShareLetter.{ShareLetter}
+use Rattle.m88_commands.specs.Limits.{most_limit, session_limit}
 use Rattle.m88_session.specs.Numbers.{IsShortNumber}
 use Rattle.m88_session.specs.Settings.{Settings}
 use Rattle.m88_commands.specs.Pages.{IsAbsent}

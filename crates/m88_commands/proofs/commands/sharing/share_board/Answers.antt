@@ -83,7 +83,7 @@ returns c =
         within = subst (λ n. o.events ≤ most_shared_events (length c.args.schedule.now) n limit)
             (stands.programs.count ∙ programs_count images s.programs s.of_images ∙ as_many h.sources images h.hold)
             (subst (λ n. o.events ≤ most_shared_events (length c.args.schedule.now) (length tasks.programs.contexts) n)
-            stands.programs.limit c.in_ok-shared.ensures.ran.within);
+            stands.programs.board.limit c.in_ok-shared.ensures.ran.within);
         is_text = c.in_ok-text.ensures;
       };
     })
