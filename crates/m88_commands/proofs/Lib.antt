@@ -16,4 +16,5 @@ pub mod BridgeLinks
 pub mod BridgeListings
 pub mod BridgeTraces
 pub mod Promises
+pub mod Showing
 pub mod Laws
